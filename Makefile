@@ -1,10 +1,26 @@
-# pipeflex: each target is a line or two of rt.
+# pipeflex: each target is a line or two of rt, the command of the Rattle kit.
 PROGRAM = crates/pipeflex/out/pipeflex
+EXAMPLE = examples/riser
 PREFIX ?= /usr/local
 
 .PHONY: all run test install clean
 
 all: $(PROGRAM)
 
-$(PROGRAM): $(shell find crates -name '*.rt' -o -name '*.antt' 2>/dev/null)
-	cd crates/pipeflex && rt run < ../../examples/straight.flex > /dev/null
+# Proves every crate below the program, then compiles and links it.
+$(PROGRAM): crates.txt $(shell find crates -path '*/out' -prune -o -type f \( -name '*.rt' -o -name '*.antt' \) -print)
+	cd crates/pipeflex && rt run -- members < ../../$(EXAMPLE).flex > /dev/null
+
+# The member table of the example, compared with the stored one.
+run: $(PROGRAM)
+	$(PROGRAM) members < $(EXAMPLE).flex | tee /dev/stderr | cmp - $(EXAMPLE).members
+
+# The gate: everything proved from nothing, every must-fail edit, test and program.
+test:
+	rt ci
+
+install: $(PROGRAM)
+	install -D $(PROGRAM) $(DESTDIR)$(PREFIX)/bin/pipeflex
+
+clean:
+	rm -rf crates/*/out
