@@ -3,7 +3,7 @@ use Rattle.std.proofs.Common.{◌≡◌, ap, ◌∙◌, arith, ℤ, pos, negsuc,
 use Rattle.std.proofs.lemmas.Int.{ints}
 use Rattle.std.specs.Int.{int_div_euclid, int_rem_euclid}
 use Rattle.int_laws.proofs.Sums.{int_sums}
-use Rattle.int_laws.proofs.Products.{add-mul, sub-mul, neg-mul, mul_comm, mul_assoc, one-mul, lt_of_mul}
+use Rattle.int_laws.proofs.Products.{add-mul, sub-mul, neg-mul, mul_comm, mul_assoc, one-mul, le_mul, lt_of_mul}
 use Rattle.flex_num.specs.Division.{IsFloor, IsCeiling, IsNearest, floor_of, ceil_of, nearest_of}
 
 double : (a : ℤ) → pos 2 *ℤ a ≡ a +ℤ a
@@ -36,6 +36,13 @@ at_most p q d h less =
     let below : p <ℤ (q +ℤ pos 1) = lt_of_mul d p (q +ℤ pos 1) (omega (arith, int_sums)) less in
     omega (arith, int_sums)
 
+-- what times d is at most n is at most the floor, and the other way round
+pub floor_greatest : (p : ℤ) {n d q : ℤ} → pos 0 <ℤ d → IsFloor n d q → (p *ℤ d) ≤ℤ n → p ≤ℤ q
+floor_greatest p {n} {d} {q} h floor below = at_most p q d h (omega (arith, int_sums, floor.next_above))
+
+pub below_floor : (p : ℤ) {n d q : ℤ} → pos 0 <ℤ d → IsFloor n d q → p ≤ℤ q → (p *ℤ d) ≤ℤ n
+below_floor p {n} {d} {q} h floor below = let kept = le_mul d (omega (arith, int_sums)) below in omega (arith, int_sums, floor.at_most)
+
 pub floor_unique : {n d p q : ℤ} → pos 0 <ℤ d → IsFloor n d p → IsFloor n d q → p ≡ q
 floor_unique {n} {d} {p} {q} h f g =
     let one = at_most p q d h (omega (arith, int_sums)) in
@@ -51,6 +58,15 @@ ceil_of-is n d h =
       at_least = omega (arith, int_sums, neg-mul q d);
       previous_below = omega (arith, int_sums, sub-mul (neg_ℤ q) (pos 1) d, add-mul q (pos 1) d, neg-mul q d);
     }
+
+-- what times d is at least n is at least the ceiling, and the other way round
+pub ceiling_least : (p : ℤ) {n d q : ℤ} → pos 0 <ℤ d → IsCeiling n d q → n ≤ℤ (p *ℤ d) → q ≤ℤ p
+ceiling_least p {n} {d} {q} h ceiling above =
+    let less : (q -ℤ pos 1) <ℤ p = lt_of_mul d (q -ℤ pos 1) p (omega (arith, int_sums)) (omega (arith, int_sums, ceiling.previous_below)) in
+    omega (arith, int_sums)
+
+pub above_ceiling : (p : ℤ) {n d q : ℤ} → pos 0 <ℤ d → IsCeiling n d q → q ≤ℤ p → n ≤ℤ (p *ℤ d)
+above_ceiling p {n} {d} {q} h ceiling above = let kept = le_mul d (omega (arith, int_sums)) above in omega (arith, int_sums, ceiling.at_least)
 
 pub ceiling_unique : {n d p q : ℤ} → pos 0 <ℤ d → IsCeiling n d p → IsCeiling n d q → p ≡ q
 ceiling_unique {n} {d} {p} {q} h f g =

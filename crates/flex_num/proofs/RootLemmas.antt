@@ -1,11 +1,11 @@
 -- The two roots: what each one is, and that nothing else is it.
-use Rattle.std.proofs.Common.{◌≡◌, ℕ, zero, suc, ◌+◌, ◌*◌, ◌/◌, ◌<◌, ◌≤◌, refl, sym, subst, arith, nat_le, nat_eq, ℤ, pos, negsuc, ◌+ℤ◌, ◌*ℤ◌, ◌≤ℤ◌, ◌<ℤ◌, true, false, if◌then◌else◌}
+use Rattle.std.proofs.Common.{◌≡◌, ℕ, zero, suc, ◌+◌, ◌*◌, ◌/◌, ◌<◌, ◌≤◌, refl, sym, subst, arith, nat_le, nat_eq, ℤ, pos, negsuc, ◌+ℤ◌, ◌*ℤ◌, ◌≤ℤ◌, true, false, if◌then◌else◌}
 use Rattle.std.proofs.lemmas.Bool.Decides.{nat_tests, Decides-int_eq}
 use Rattle.std.proofs.lemmas.Int.{ints, by_lt_z}
 use Rattle.std.specs.Int.{IsIsqrt}
 use Rattle.std.specs.Ordering.{int_eq}
 use Rattle.int_laws.proofs.Sums.{int_sums}
-use Rattle.int_laws.proofs.Products.{mul_comm, le_mul, lt_mul}
+use Rattle.int_laws.proofs.Products.{square_less, square_le}
 use Rattle.flex_num.specs.Root.{IsRoot, IsRootUp, stepped, root_within, root_of, root_up_of}
 
 -- r is the root of n among naturals
@@ -68,18 +68,6 @@ root_unique {n} {p} {q} f g =
 pub root_from_std : (n r : ℤ) → pos 0 ≤ℤ n → IsIsqrt n r → IsRoot n r
 root_from_std (pos n) r h (m, same, low, high) = subst (IsRoot (pos n)) (sym same) (root_from n m (record { at_most = low; next_above = high }))
 root_from_std (negsuc n) r h root = absurd (omega (arith, ints))
-
-square_less : (k r : ℤ) → pos 0 ≤ℤ k → k <ℤ r → (k *ℤ k) <ℤ (r *ℤ r)
-square_less k r h less =
-    let first : (k *ℤ k) ≤ℤ (r *ℤ k) = le_mul k h (omega (arith, int_sums)) in
-    let second : (k *ℤ r) <ℤ (r *ℤ r) = lt_mul r (omega (arith, int_sums)) less in
-    omega (arith, int_sums, mul_comm k r)
-
-pub square_le : (k r : ℤ) → pos 0 ≤ℤ k → k ≤ℤ r → (k *ℤ k) ≤ℤ (r *ℤ r)
-square_le k r h less =
-    let first : (k *ℤ k) ≤ℤ (r *ℤ k) = le_mul k h less in
-    let second : (k *ℤ r) ≤ℤ (r *ℤ r) = le_mul r (omega (arith, int_sums)) less in
-    omega (arith, int_sums, mul_comm k r)
 
 pub root_up_when_exact : {n r : ℤ} → IsRoot n r → r *ℤ r ≡ n → IsRootUp n r
 root_up_when_exact {n} {r} root exact = record {

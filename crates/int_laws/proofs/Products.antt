@@ -50,9 +50,13 @@ mul-sub a b c = omega (arith, int_sums, mul-add a b (neg_ℤ c), mul-neg a c)
 pub mul_assoc : (a b c : ℤ) → (a *ℤ b) *ℤ c ≡ a *ℤ (b *ℤ c)
 mul_assoc a b c = same_in _ _ (simp (up-mul, down-mul) (omega arith))
 
--- the first factor past the second, to bring factors together
-pub mul_swap : (a b c : ℤ) → a *ℤ (b *ℤ c) ≡ b *ℤ (a *ℤ c)
-mul_swap a b c = same_in _ _ (simp (up-mul, down-mul) (omega arith))
+-- the two last factors change places
+pub mul_right_comm : (a b c : ℤ) → (a *ℤ b) *ℤ c ≡ (a *ℤ c) *ℤ b
+mul_right_comm a b c = same_in _ _ (simp (up-mul, down-mul) (omega arith))
+
+-- of four factors the two in the middle change places
+pub mul_mul_mul_comm : (a b c d : ℤ) → (a *ℤ b) *ℤ (c *ℤ d) ≡ (a *ℤ c) *ℤ (b *ℤ d)
+mul_mul_mul_comm a b c d = same_in _ _ (simp (up-mul, down-mul) (omega arith))
 
 -- ---- order
 pub mul_nonnegative : (a b : ℤ) → pos 0 ≤ℤ a → pos 0 ≤ℤ b → pos 0 ≤ℤ (a *ℤ b)
@@ -77,6 +81,12 @@ le_mul c {a} {b} positive h =
     let apart : pos 0 ≤ℤ (b -ℤ a) = omega (arith, int_sums) in
     omega (arith, int_sums, mul_nonnegative (b -ℤ a) c apart positive, sub-mul b a c)
 
+-- a factor that is not positive turns the order round
+pub le_mul_negative : (c : ℤ) {a b : ℤ} → c ≤ℤ pos 0 → a ≤ℤ b → (b *ℤ c) ≤ℤ (a *ℤ c)
+le_mul_negative c {a} {b} negative h =
+    let turned = le_mul (neg_ℤ c) (omega (arith, int_sums)) h in
+    omega (arith, int_sums, mul-neg a c, mul-neg b c)
+
 pub lt_mul : (c : ℤ) {a b : ℤ} → pos 0 <ℤ c → a <ℤ b → (a *ℤ c) <ℤ (b *ℤ c)
 lt_mul c {a} {b} positive h =
     let apart : pos 0 <ℤ (b -ℤ a) = omega (arith, int_sums) in
@@ -95,6 +105,23 @@ same_of_mul c a b positive h =
     let below = le_of_mul c a b positive (omega (arith, int_sums)) in
     let above = le_of_mul c b a positive (omega (arith, int_sums)) in
     omega (arith, int_sums)
+
+-- ---- squares
+pub square_less : (k r : ℤ) → pos 0 ≤ℤ k → k <ℤ r → (k *ℤ k) <ℤ (r *ℤ r)
+square_less k r h less =
+    let first : (k *ℤ k) ≤ℤ (r *ℤ k) = le_mul k h (omega (arith, int_sums)) in
+    let second : (k *ℤ r) <ℤ (r *ℤ r) = lt_mul r (omega (arith, int_sums)) less in
+    omega (arith, int_sums, mul_comm k r)
+
+pub square_le : (k r : ℤ) → pos 0 ≤ℤ k → k ≤ℤ r → (k *ℤ k) ≤ℤ (r *ℤ r)
+square_le k r h less =
+    let first : (k *ℤ k) ≤ℤ (r *ℤ k) = le_mul k h less in
+    let second : (k *ℤ r) ≤ℤ (r *ℤ r) = le_mul r (omega (arith, int_sums)) less in
+    omega (arith, int_sums, mul_comm k r)
+
+-- what has the lesser square is less in size
+pub le_of_square : (k r : ℤ) → pos 0 ≤ℤ r → (k *ℤ k) ≤ℤ (r *ℤ r) → k ≤ℤ r
+le_of_square k r h less = by_lt_z r k (λ greater. let over = square_less r k h greater in absurd (omega (arith, int_sums))) (λ rest. rest)
 
 -- less, equal or greater
 pub compared : (a b : ℤ) → (a <ℤ b) ⊎ ((a ≡ b) ⊎ (b <ℤ a))

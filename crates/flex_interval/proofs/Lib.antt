@@ -1,0 +1,3 @@
+pub mod FractionLemmas
+pub mod QuotientLemmas
+pub mod RootLemmas
