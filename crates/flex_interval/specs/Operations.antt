@@ -5,7 +5,8 @@ use Rattle.flex_num.specs.Division.{floor_of, ceil_of}
 use Rattle.flex_num.specs.Root.{root_of, root_up_of}
 use Rattle.flex_interval.specs.Ends.{Ends}
 use Rattle.flex_interval.specs.declared.fault.IvFault.{IvFault}
-use Rattle.flex_interval.specs.declared.fault.IvFault.TheVariants.{Wide, Zero}
+use Rattle.flex_interval.specs.declared.fault.IvFault.TheVariants as fault
+use Rattle.flex_interval.specs.declared.fault.Wide.{Wide}
 
 abbrev pub least : ℤ → ℤ → ℤ → ℤ → ℤ
 least p q r s = int_min (int_min p q) (int_min r s)
@@ -23,11 +24,16 @@ is_small x = nat_lt (unsigned_abs x) (2 ^ 126)
 -- the next step on what a step answered; a fault stays
 abbrev pub and_then : {A B : Type 0} → Result A IvFault → (A → Result B IvFault) → Result B IvFault
 and_then (Ok a) next = next a
-and_then (Err fault) next = Err fault
+and_then (Err e) next = Err e
+
+-- the same where a call has `Wide` as its only fault: any fault of a step becomes it
+abbrev pub or_wide : {A B : Type 0} → Result A IvFault → (A → Result B Wide) → Result B Wide
+or_wide (Ok a) next = next a
+or_wide (Err e) next = Err (record {})
 
 -- the product of x and y, where it is small
 abbrev pub product_of : ℤ → ℤ → Result ℤ IvFault
-product_of x y = if is_small (x *ℤ y) then Ok (x *ℤ y) else Err Wide
+product_of x y = if is_small (x *ℤ y) then Ok (x *ℤ y) else Err fault.Wide
 
 -- the number v alone
 unfoldable pub point_of : ℤ → Ends
@@ -68,7 +74,7 @@ holds_zero b = int_le b.lo (pos 0) && int_le (pos 0) b.hi
 
 -- 2^s a / b; that b holds 0 is looked at first
 unfoldable pub div_of : Ends → Ends → ℕ → Result Ends IvFault
-div_of a b s = if holds_zero b then Err Zero else and_then (shifted_of a s) (λ e. Ok (quotients e b))
+div_of a b s = if holds_zero b then Err fault.Zero else and_then (shifted_of a s) (λ e. Ok (quotients e b))
 
 -- the square root of 2^s a, for an a that is nowhere negative
 unfoldable pub sqrt_of : Ends → ℕ → Result Ends IvFault

@@ -1,0 +1,2 @@
+pub mod Pi
+pub mod Straight

@@ -1,0 +1,6 @@
+// From the text of a piping model to its report.
+#![tactic(auto)]
+
+mod pi;
+mod stiffness;
+pub mod straight;
