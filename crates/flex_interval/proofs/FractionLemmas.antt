@@ -1,9 +1,11 @@
 -- What lies between two ends, times a factor; and how each exact operation stays between rounded ends.
-use Rattle.std.proofs.Common.{◌≡◌, ◌-◌, ◌^◌, ap, arith, ℤ, pos, ◌+ℤ◌, ◌-ℤ◌, ◌*ℤ◌, neg_ℤ, ◌≤ℤ◌, ◌<ℤ◌}
+use Rattle.std.proofs.Common.{ℕ, ◌≡◌, ◌-◌, ◌^◌, ap, arith, ℤ, pos, ◌+ℤ◌, ◌-ℤ◌, ◌*ℤ◌, neg_ℤ, ◌≤ℤ◌, ◌<ℤ◌, ◌<◌, unsigned_abs}
+use Rattle.std.proofs.lemmas.Nat.{pow_pos}
 use Rattle.std.proofs.lemmas.Int.{ints, by_lt_z}
 use Rattle.int_laws.proofs.Sums.{int_sums}
 use Rattle.int_laws.proofs.Products.{mul_comm, mul_assoc, mul_right_comm, neg-mul, le_mul, le_mul_negative, le_of_mul, lt_of_mul, mul_positive, one-mul}
-use Rattle.flex_num.specs.Division.{IsFloor, IsCeiling}
+use Rattle.flex_num.specs.Division.{IsFloor, IsCeiling, floor_of}
+use Rattle.flex_num.proofs.DivisionLemmas.{floor_of-is}
 use Rattle.flex_interval.specs.Ends.{Ends, IsInterval}
 use Rattle.flex_interval.specs.Fraction.{Fraction, Within, scaled}
 
@@ -45,20 +47,23 @@ multiple_within a e n x ll lh hl hh within =
     }
 
 -- rounding outwards after a division by m
+pub rounded_within : (p e : Ends) (num den m : ℤ) → pos 0 <ℤ m → (e.lo *ℤ m) ≤ℤ p.lo → p.hi ≤ℤ (e.hi *ℤ m) → Within p (record { num = num; den = den *ℤ pos 1 }) → Within e (record { num = num; den = den *ℤ m })
+rounded_within p e num den m positive low high within =
+    let one : den *ℤ pos 1 ≡ den = omega (arith, ints) in
+    let defined : pos 0 <ℤ den = rw one at within.defined in
+    let below : (p.lo *ℤ den) ≤ℤ num = rw one at within.at_least in
+    let above : num ≤ℤ (p.hi *ℤ den) = rw one at within.at_most in
+    let low_scaled = le_mul den (omega (arith, int_sums)) low in
+    let high_scaled = le_mul den (omega (arith, int_sums)) high in
+    record {
+      defined = mul_positive den m defined positive;
+      at_least = omega (arith, int_sums, mul_assoc e.lo m den, ap (λ z. e.lo *ℤ z) (mul_comm m den));
+      at_most = omega (arith, int_sums, mul_assoc e.hi m den, ap (λ z. e.hi *ℤ z) (mul_comm m den));
+    }
+
 pub ratio_within : (p e : Ends) (n m : ℤ) (x : Fraction) → pos 0 <ℤ m → (e.lo *ℤ m) ≤ℤ p.lo → p.hi ≤ℤ (e.hi *ℤ m) → Within p (scaled x n (pos 1)) → Within e (scaled x n m)
 unfolding scaled
-ratio_within p e n m x positive low high within =
-    let one : x.den *ℤ pos 1 ≡ x.den = omega (arith, ints) in
-    let defined : pos 0 <ℤ x.den = rw one at within.defined in
-    let below : (p.lo *ℤ x.den) ≤ℤ (x.num *ℤ n) = rw one at within.at_least in
-    let above : (x.num *ℤ n) ≤ℤ (p.hi *ℤ x.den) = rw one at within.at_most in
-    let low_scaled = le_mul x.den (omega (arith, int_sums)) low in
-    let high_scaled = le_mul x.den (omega (arith, int_sums)) high in
-    record {
-      defined = mul_positive x.den m defined positive;
-      at_least = omega (arith, int_sums, mul_assoc e.lo m x.den, ap (λ z. e.lo *ℤ z) (mul_comm m x.den));
-      at_most = omega (arith, int_sums, mul_assoc e.hi m x.den, ap (λ z. e.hi *ℤ z) (mul_comm m x.den));
-    }
+ratio_within p e n m x positive low high within = rounded_within p e (x.num *ℤ n) x.den m positive low high within
 
 enlarged : (b m : ℤ) → pos 0 ≤ℤ b → pos 0 <ℤ m → b ≤ℤ (b *ℤ m)
 enlarged b m h positive =
@@ -89,3 +94,12 @@ ratio_is_interval {q} {r} {m} {lo} {hi} positive interval floor ceiling =
       lo_small = omega (arith, int_sums);
       hi_small = omega (arith, int_sums);
     }
+
+pub power_positive : (s : ℕ) → pos 0 <ℤ pos (2 ^ s)
+power_positive s = omega (arith, int_sums, pow_pos s)
+
+-- a shift to the right makes nothing greater in size
+pub floor_small : (n : ℤ) (s : ℕ) → unsigned_abs n < 2 ^ 126 → unsigned_abs (floor_of n (pos (2 ^ s))) < 2 ^ 126
+floor_small n s small =
+    let within = floor_size (pos (2 ^ 126 - 1)) (omega (arith, int_sums)) (power_positive s) (omega (arith, int_sums)) (omega (arith, int_sums)) (floor_of-is n (pos (2 ^ s)) (power_positive s)) in
+    omega (arith, int_sums)

@@ -1,5 +1,5 @@
 -- Numbers as fractions, and the exact operations on them: what each operation on intervals encloses.
-use Rattle.std.specs.Prelude.{ℕ, ◌^◌, ℤ, pos, ◌*ℤ◌, neg_ℤ, ◌≤ℤ◌, ◌<ℤ◌, unsigned_abs}
+use Rattle.std.specs.Prelude.{ℕ, ◌^◌, Bool, ℤ, pos, ◌+ℤ◌, ◌*ℤ◌, neg_ℤ, ◌≤ℤ◌, ◌<ℤ◌, unsigned_abs, int_lt, if◌then◌else◌}
 use Rattle.std.specs.Int.{int_signum}
 use Rattle.flex_interval.specs.Ends.{Ends}
 
@@ -20,6 +20,26 @@ whole n = record { num = n; den = pos 1 }
 
 unfoldable pub negated : Fraction → Fraction
 negated x = record { num = neg_ℤ x.num; den = x.den }
+
+unfoldable pub plus : Fraction → Fraction → Fraction
+plus x y = record { num = x.num *ℤ y.den +ℤ y.num *ℤ x.den; den = x.den *ℤ y.den }
+
+unfoldable pub minus : Fraction → Fraction → Fraction
+minus x y = plus x (negated y)
+
+-- the size of x
+unfoldable pub absolute : Fraction → Fraction
+absolute x = record { num = pos (unsigned_abs x.num); den = x.den }
+
+-- x < y, for positive denominators
+abbrev pub less : Fraction → Fraction → Bool
+less x y = int_lt (x.num *ℤ y.den) (y.num *ℤ x.den)
+
+unfoldable pub greater : Fraction → Fraction → Fraction
+greater x y = if less x y then y else x
+
+unfoldable pub lesser : Fraction → Fraction → Fraction
+lesser x y = if less x y then x else y
 
 -- x n / m
 unfoldable pub scaled : Fraction → ℤ → ℤ → Fraction

@@ -1,7 +1,7 @@
 ghost use Rattle.std.specs.Prelude.{◌≡◌, ◌^◌, ◌<◌, ℤ, unsigned_abs};
 ghost use Rattle.flex_interval.specs.Ends.{Ends, IsInterval};
-ghost use Rattle.flex_interval.specs.Fraction.{Fraction, Within, whole, negated};
-ghost use Rattle.flex_interval.specs.Operations.{point_of, neg_of};
+ghost use Rattle.flex_interval.specs.Fraction.{Within, whole};
+ghost use Rattle.flex_interval.specs.Operations.{point_of};
 
 use std::marker::Model;
 
@@ -30,16 +30,4 @@ pub fn point(v: i128) -> Iv
     ensures within { Within result (whole v) }
 {
     Iv { lo: v, hi: v }
-}
-
-/// `-a`.
-#[tactic(auto, unfolding(crate::specs::Operations::neg_of, crate::specs::Fraction::negated))]
-pub fn neg(a: Iv) -> Iv
-    ensures value { result ≡ neg_of a }
-    ensures within { (x : Fraction) → Within a x → Within result (negated x) }
-{
-    Iv {
-        lo: -a.hi,
-        hi: -a.lo,
-    }
 }

@@ -3,12 +3,18 @@
 
 mod fault;
 mod interval;
+mod order;
+mod product;
 mod quotient;
 mod scale;
 mod square_root;
+mod sum;
 
 pub use fault::{IvFault, Wide};
-pub use interval::{Iv, neg, point};
+pub use interval::{Iv, point};
+pub use order::{abs, max, min};
+pub use product::mul;
 pub use quotient::div;
 pub use scale::ratio;
 pub use square_root::root;
+pub use sum::{add, neg, sub};

@@ -5,8 +5,10 @@ ghost use Rattle.flex_interval.specs.Fraction.{Fraction, Within, over};
 ghost use Rattle.flex_interval.specs.Operations.{holds_zero, quotients, div_of};
 
 use crate::fault::IvFault;
-use crate::interval::{Iv, neg};
+use crate::interval::Iv;
+use crate::order::holds_zero;
 use crate::scale::shifted;
+use crate::sum::neg;
 use flex_num::{ceil_div, floor_div};
 
 /// `a * 2^s / b`. `Zero` where `b` holds 0, which is tested first; `Wide` where an end times `2^s` reaches 2^126 in size.
@@ -21,12 +23,6 @@ pub fn div(a: Iv, b: Iv, s: u32) -> Result<Iv, IvFault>
     }
     let dividend = shifted(a, s)?;
     Ok(signed_quotient(dividend, b))
-}
-
-fn holds_zero(b: Iv) -> bool
-    ensures { result ≡ holds_zero b }
-{
-    b.lo <= 0 && 0 <= b.hi
 }
 
 /// `a / b`, for a `b` that doesn't hold 0.

@@ -4,9 +4,8 @@ ghost use Rattle.flex_interval.specs.Operations.{product_of, multiple_of, shifte
 
 use crate::fault::IvFault;
 use crate::interval::Iv;
+use crate::sum::small;
 use flex_num::{ceil_div, floor_div};
-
-const LIMIT: i128 = 1 << 126;
 
 /// `a * n / m`, for a positive `m`. `Wide` where an end times `n` reaches 2^126 in size.
 #[tactic(auto, unfolding(crate::specs::Operations::ratio_of))]
@@ -66,7 +65,7 @@ pub(crate) fn product(a: i128, b: i128) -> Result<i128, IvFault>
     ensures small { IfOk result (λ p. unsigned_abs p < 2 ^ 126) }
 {
     match flex_num::mul(a, b) {
-        Some(product) if -LIMIT < product && product < LIMIT => Ok(product),
-        _ => Err(IvFault::Wide),
+        Some(product) => small(product),
+        None => Err(IvFault::Wide),
     }
 }
