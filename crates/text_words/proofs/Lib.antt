@@ -1,0 +1,3 @@
+mod FieldLemmas
+mod NameLemmas
+pub mod NumberLemmas
