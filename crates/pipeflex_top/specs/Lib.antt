@@ -1,2 +1,4 @@
+pub mod OneStraight
 pub mod Pi
+pub mod Refusal
 pub mod Straight
