@@ -1,4 +1,5 @@
 pub mod OneStraight
 pub mod Pi
+pub mod Reading
 pub mod Refusal
 pub mod Straight

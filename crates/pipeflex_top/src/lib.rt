@@ -3,5 +3,6 @@
 
 pub mod one_straight;
 mod pi;
+mod reading;
 mod stiffness;
 pub mod straight;
