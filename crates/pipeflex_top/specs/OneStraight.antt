@@ -10,7 +10,7 @@ use Rattle.pipeflex_top.specs.declared.one_straight.Straight.{Straight}
 use Rattle.pipeflex_top.specs.declared.one_straight.OneStraight.{OneStraight}
 
 -- a line: its words with single spaces between them, and a line feed
-abbrev pub line : List (List ℕ) → List ℕ
+unfoldable pub line : List (List ℕ) → List ℕ
 line words = join_with_byte 32 words ++ 10 ∷ []
 
 -- the line with which each text begins
@@ -31,10 +31,14 @@ node_line n = line (codes "node" ∷ n.name ∷ signed_decimal n.x ∷ signed_de
 abbrev pub straight_line : Straight → List ℕ
 straight_line s = line (codes "straight" ∷ s.name ∷ s.from ∷ s.to ∷ s.section ∷ [])
 
+-- the lines of the five records
+abbrev pub record_lines : OneStraight → List ℕ
+record_lines m =
+    concat (material_line m.material ∷ section_line m.section ∷ node_line m.first ∷ node_line m.second ∷ straight_line m.straight ∷ [])
+
 -- the six lines
 abbrev pub written : OneStraight → List ℕ
-written m =
-    concat (header ∷ material_line m.material ∷ section_line m.section ∷ node_line m.first ∷ node_line m.second ∷ straight_line m.straight ∷ [])
+written m = header ++ record_lines m
 
 -- n lies in the range from least to most
 abbrev pub IsBetween : ℤ → ℤ → ℤ → Type 0
@@ -48,7 +52,7 @@ pub record IsMaterial (m : Material) : Type 0 where
   pub alpha : IsBetween (pos 0) (pos 100000) m.alpha
   pub rho : IsBetween (pos 0) (pos 30000) m.rho
 
--- D, T and ALLOWANCE in micrometres, EXTRA in mN/m. The wall leaves a bore, and the allowance leaves a wall
+-- D, T and ALLOWANCE in micrometres, EXTRA in mN/m
 pub record IsSection (s : Section) : Type 0 where
   pub name : IsTrue (is_name s.name)
   pub material : IsTrue (is_name s.material)
@@ -56,12 +60,15 @@ pub record IsSection (s : Section) : Type 0 where
   pub t : IsBetween (pos 100) (pos 200000) s.t
   pub allowance : IsBetween (pos 0) (pos 200000) s.allowance
   pub extra : IsBetween (pos 0) (pos 100000000) s.extra
+
+-- the wall leaves a bore, and the allowance leaves a wall
+pub record HasWall (s : Section) : Type 0 where
   pub bore : (pos 2 *ℤ s.t) <ℤ s.d
   pub wall : s.allowance <ℤ s.t
 
--- a coordinate, in micrometres
+-- a coordinate, in micrometres: within 10 km of 0
 abbrev pub IsCoordinate : ℤ → Type 0
-IsCoordinate x = unsigned_abs x ≤ 10000000000
+IsCoordinate x = IsBetween (negsuc 9999999999) (pos 10000000000) x
 
 pub record IsNode (n : Node) : Type 0 where
   pub name : IsTrue (is_name n.name)
@@ -83,32 +90,41 @@ AreAligned p q = ((p.y ≡ q.y) × (p.z ≡ q.z)) ⊎ (((p.x ≡ q.x) × (p.z �
 abbrev pub distance : Node → Node → ℕ
 distance p q = unsigned_abs (p.x -ℤ q.x) + unsigned_abs (p.y -ℤ q.y) + unsigned_abs (p.z -ℤ q.z)
 
--- the length of the straight, in micrometres
-abbrev pub span_of : OneStraight → ℕ
-span_of m = distance m.first m.second
+-- the nodes differ in one coordinate alone, by at most 30 m
+pub record AreNear (p q : Node) : Type 0 where
+  pub aligned : AreAligned p q
+  pub apart : 1 ≤ distance p q
+  pub near : distance p q ≤ 30000000
 
--- a is one of the nodes' names and b is the other's
+-- a is one of the nodes' names, and b is the other's
 abbrev pub AreEnds : List ℕ → List ℕ → OneStraight → Type 0
 AreEnds a b m = ((a ≡ m.first.name) × (b ≡ m.second.name)) ⊎ ((a ≡ m.second.name) × (b ≡ m.first.name))
 
--- the records name one another, and the nodes differ in one coordinate alone, by at most 30 m
-pub record IsJoined (m : OneStraight) : Type 0 where
+-- the records name one another, and the nodes have different names
+pub record AreNamed (m : OneStraight) : Type 0 where
   pub material : m.section.material ≡ m.material.name
   pub section : m.straight.section ≡ m.section.name
-  pub ends : AreEnds m.straight.from m.straight.to m
   pub distinct : m.first.name ≢ m.second.name
-  pub aligned : AreAligned m.first m.second
-  pub apart : 1 ≤ span_of m
-  pub near : span_of m ≤ 30000000
+  pub ends : AreEnds m.straight.from m.straight.to m
 
--- names and numbers are in their forms and ranges, and the records fit together
-pub record IsValid (m : OneStraight) : Type 0 where
+-- names and numbers are in their forms and ranges
+pub record AreInRange (m : OneStraight) : Type 0 where
   pub material : IsMaterial m.material
   pub section : IsSection m.section
   pub first : IsNode m.first
   pub second : IsNode m.second
   pub straight : IsStraight m.straight
-  pub joined : IsJoined m
+
+-- these values are a model
+pub record IsValid (m : OneStraight) : Type 0 where
+  pub ranges : AreInRange m
+  pub wall : HasWall m.section
+  pub named : AreNamed m
+  pub near : AreNear m.first m.second
+
+-- the length of the straight, in micrometres
+abbrev pub span_of : OneStraight → ℕ
+span_of m = distance m.first m.second
 
 -- the text is the six lines of these values
 pub record IsTextOf (text : List ℕ) (m : OneStraight) : Type 0 where

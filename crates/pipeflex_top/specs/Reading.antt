@@ -1,6 +1,5 @@
 -- Reading the lines of one straight from left to right.
 use Rattle.std.specs.Prelude.{◌≡◌, ℕ, ℤ, pos, negsuc, ◌*ℤ◌, int_lt, int_le, ◌&&◌, List, Option, Some, None, codes, if◌then◌else◌}
-use Rattle.std.specs.Option.{option_and_then}
 use Rattle.std.specs.Result.{result_ok}
 use Rattle.std.specs.Str.{bytes_eq}
 use Rattle.text_words.specs.Fields.{split_at_first}
@@ -12,9 +11,14 @@ use Rattle.pipeflex_top.specs.declared.one_straight.Node.{Node}
 use Rattle.pipeflex_top.specs.declared.one_straight.Straight.{Straight}
 use Rattle.pipeflex_top.specs.declared.one_straight.OneStraight.{OneStraight}
 
+-- what the next step gives at what this one gave
+unfoldable pub and_then : {A B : Type 0} → Option A → (A → Option B) → Option B
+and_then None f = None
+and_then (Some x) f = f x
+
 infixl 10 ◌>>=◌
 abbrev pub ◌>>=◌ : {A B : Type 0} → Option A → (A → Option B) → Option B
-o >>= f = option_and_then f o
+o >>= f = and_then o f
 
 -- what a step of a reader gave and what it left are what reading gives
 abbrev pub Takes : {X : Type 0} → Option X → List ℕ → Option (X × List ℕ) → Type 0

@@ -1,6 +1,10 @@
-ghost use Rattle.std.specs.Prelude.{◌≡◌};
-ghost use Rattle.pipeflex_top.specs.Refusal.{refusal_number, refusal_word};
+ghost use Rattle.std.specs.Prelude.{◌≡◌, ◌≢◌, ◌↔◌, IsTrue, IfOk, IfErr, Ok, Err};
+ghost use Rattle.pipeflex_top.specs.declared.one_straight.OneStraight.{OneStraight};
+ghost use Rattle.pipeflex_top.specs.declared.one_straight.Refusal.{Refusal};
+ghost use Rattle.pipeflex_top.specs.OneStraight.{IsTextOf, IsValid, HasWall, AreNamed, AreEnds, AreAligned, AreNear, record_lines, distance, span_of};
+ghost use Rattle.pipeflex_top.specs.Refusal.{IsRefused, refusal_number, refusal_word};
 
+use crate::reading::Fields;
 use text_words::Name;
 use thiserror::Error;
 
@@ -94,4 +98,52 @@ impl Refusal {
             Refusal::Unbuilt => "unbuilt",
         }
     }
+}
+
+/// The most bytes of a text: 4 MiB.
+pub const LIMIT: usize = 4_194_304;
+
+const LONGEST_STRAIGHT: u64 = 30_000_000;
+
+fn has_wall(section: &Section) -> bool
+    ensures { IsTrue result ↔ HasWall section.now }
+{
+    2 * i128::from(section.t) < i128::from(section.d) && section.allowance < section.t
+}
+
+fn are_aligned(p: &Node, q: &Node) -> bool
+    ensures { IsTrue result ↔ AreAligned p.now q.now }
+{
+    let (same_x, same_y, same_z) = (p.x == q.x, p.y == q.y, p.z == q.z);
+    same_y && same_z || same_x && same_z || same_x && same_y
+}
+
+fn distance(p: &Node, q: &Node) -> u64
+    requires { AreAligned p.now q.now }
+    ensures { result ≡ distance p.now q.now }
+{
+    p.x.abs_diff(q.x) + p.y.abs_diff(q.y) + p.z.abs_diff(q.z)
+}
+
+fn are_near(p: &Node, q: &Node) -> bool
+    ensures { IsTrue result ↔ AreNear p.now q.now }
+{
+    are_aligned(p, q) && 1 <= distance(p, q) && distance(p, q) <= LONGEST_STRAIGHT
+}
+
+fn are_ends(a: Name, b: Name, values: &OneStraight) -> bool
+    ensures { IsTrue result ↔ AreEnds a b values.now }
+{
+    let (first, second) = (values.first.name, values.second.name);
+    a == first && b == second || a == second && b == first
+}
+
+fn are_named(values: &OneStraight) -> bool
+    ensures { IsTrue result ↔ AreNamed values.now }
+{
+    let straight = &values.straight;
+    values.section.material == values.material.name
+        && straight.section == values.section.name
+        && values.first.name != values.second.name
+        && are_ends(straight.from, straight.to, values)
 }

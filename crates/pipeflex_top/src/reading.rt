@@ -36,7 +36,7 @@ impl<'a> Fields<'a> {
         self.rest.is_empty()
     }
 
-    #[tactic(auto, unfolding(crate::specs::Reading::keyword_at))]
+    #[tactic(auto, unfolding(crate::specs::Reading::and_then, crate::specs::Reading::keyword_at))]
     fn keyword(&mut self, word: &[u8]) -> Option<()>
         ensures { Takes result self.new (keyword_at word.now self.old) }
     {
@@ -45,7 +45,7 @@ impl<'a> Fields<'a> {
         (field == word).then_some(())
     }
 
-    #[tactic(auto, unfolding(crate::specs::Reading::name_at))]
+    #[tactic(auto, unfolding(crate::specs::Reading::and_then, crate::specs::Reading::name_at))]
     fn name(&mut self, end: u8) -> Option<Name>
         ensures { Takes result self.new (name_at end self.old) }
     {
@@ -54,7 +54,7 @@ impl<'a> Fields<'a> {
         Name::new(field)
     }
 
-    #[tactic(auto, unfolding(crate::specs::Reading::number_at))]
+    #[tactic(auto, unfolding(crate::specs::Reading::and_then, crate::specs::Reading::number_at))]
     fn number(&mut self, end: u8, least: i64, most: i64) -> Option<i64>
         ensures { Takes result self.new (number_at end least most self.old) }
     {
@@ -71,7 +71,7 @@ impl<'a> Fields<'a> {
         self.number(end, -FARTHEST, FARTHEST)
     }
 
-    #[tactic(auto, unfolding(crate::specs::Reading::material_at))]
+    #[tactic(auto, unfolding(crate::specs::Reading::and_then, crate::specs::Reading::material_at))]
     fn material(&mut self) -> Option<Material>
         ensures { Takes result self.new (material_at self.old) }
     {
@@ -90,7 +90,7 @@ impl<'a> Fields<'a> {
         })
     }
 
-    #[tactic(auto, unfolding(crate::specs::Reading::section_at))]
+    #[tactic(auto, unfolding(crate::specs::Reading::and_then, crate::specs::Reading::section_at))]
     fn section(&mut self) -> Option<Section>
         ensures { Takes result self.new (section_at self.old) }
     {
@@ -111,7 +111,7 @@ impl<'a> Fields<'a> {
         })
     }
 
-    #[tactic(auto, unfolding(crate::specs::Reading::node_at))]
+    #[tactic(auto, unfolding(crate::specs::Reading::and_then, crate::specs::Reading::node_at))]
     fn node(&mut self) -> Option<Node>
         ensures { Takes result self.new (node_at self.old) }
     {
@@ -123,7 +123,7 @@ impl<'a> Fields<'a> {
         Some(Node { name, x, y, z })
     }
 
-    #[tactic(auto, unfolding(crate::specs::Reading::straight_at))]
+    #[tactic(auto, unfolding(crate::specs::Reading::and_then, crate::specs::Reading::straight_at))]
     fn straight(&mut self) -> Option<Straight>
         ensures { Takes result self.new (straight_at self.old) }
     {
@@ -141,7 +141,7 @@ impl<'a> Fields<'a> {
     }
 
     /// The values of the five lines behind the header.
-    #[tactic(auto, unfolding(crate::specs::Reading::values_at))]
+    #[tactic(auto, unfolding(crate::specs::Reading::and_then, crate::specs::Reading::values_at))]
     pub fn values(&mut self) -> Option<OneStraight>
         ensures { Takes result self.new (values_at self.old) }
     {
