@@ -26,10 +26,10 @@ name_at_end : (name rest : List ℕ) → IsTrue (is_name name) → name_at 10 (l
 name_at_end name rest is = rw (line-last name rest) (name_again 10 name rest (omega arith) is)
 
 -- the range has numbers of at most 18 digits
-abbrev is_short : ℤ → ℤ → Bool
+abbrev pub is_short : ℤ → ℤ → Bool
 is_short least most = int_le (negsuc 999999999999999998) least && int_le most (pos 999999999999999999)
 
-short_in : (least most n : ℤ) → is_short least most ≡ true → IsBetween least most n → unsigned_abs n < 10 ^ 18
+pub short_in : (least most n : ℤ) → is_short least most ≡ true → IsBetween least most n → unsigned_abs n < 10 ^ 18
 short_in least most n short between =
     let parts = and_parts (int_le (negsuc 999999999999999998) least) (int_le most (pos 999999999999999999)) short in
     let below : negsuc 999999999999999998 ≤ℤ least = grind (arith, ints) in

@@ -115,18 +115,27 @@ pub record AreInRange (m : OneStraight) : Type 0 where
   pub second : IsNode m.second
   pub straight : IsStraight m.straight
 
--- these values are a model
-pub record IsValid (m : OneStraight) : Type 0 where
-  pub ranges : AreInRange m
+-- the values agree with one another
+pub record FitTogether (m : OneStraight) : Type 0 where
   pub wall : HasWall m.section
   pub named : AreNamed m
   pub near : AreNear m.first m.second
+
+-- these values are a model
+pub record IsValid (m : OneStraight) : Type 0 where
+  pub ranges : AreInRange m
+  pub together : FitTogether m
 
 -- the length of the straight, in micrometres
 abbrev pub span_of : OneStraight → ℕ
 span_of m = distance m.first m.second
 
--- the text is the six lines of these values
+-- what stands behind the header are the five lines of the model
+pub record IsModelOf (rest : List ℕ) (m : OneStraight) : Type 0 where
+  pub valid : IsValid m
+  pub lines : rest ≡ record_lines m
+
+-- the text is the six lines of the model
 pub record IsTextOf (text : List ℕ) (m : OneStraight) : Type 0 where
   pub valid : IsValid m
   pub written : text ≡ written m

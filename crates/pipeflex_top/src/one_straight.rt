@@ -1,8 +1,8 @@
-ghost use Rattle.std.specs.Prelude.{◌≡◌, ◌≢◌, ◌↔◌, IsTrue, IfOk, IfErr, Ok, Err};
+ghost use Rattle.std.specs.Prelude.{◌≡◌, ◌↔◌, ◌++◌, IsTrue, MatchOption, IfOk, IfErr, Ok, Err};
 ghost use Rattle.pipeflex_top.specs.declared.one_straight.OneStraight.{OneStraight};
 ghost use Rattle.pipeflex_top.specs.declared.one_straight.Refusal.{Refusal};
-ghost use Rattle.pipeflex_top.specs.OneStraight.{IsTextOf, IsValid, HasWall, AreNamed, AreEnds, AreAligned, AreNear, record_lines, distance, span_of};
-ghost use Rattle.pipeflex_top.specs.Refusal.{IsRefused, refusal_number, refusal_word};
+ghost use Rattle.pipeflex_top.specs.OneStraight.{IsTextOf, IsModelOf, header, FitTogether, HasWall, AreNamed, AreEnds, AreAligned, AreNear, distance};
+ghost use Rattle.pipeflex_top.specs.Refusal.{IsRefused, HasHeader, refusal_number, refusal_word};
 
 use crate::reading::Fields;
 use text_words::Name;
@@ -103,6 +103,8 @@ impl Refusal {
 /// The most bytes of a text: 4 MiB.
 pub const LIMIT: usize = 4_194_304;
 
+const HEADER: &[u8] = b"pipeflex 1\n";
+
 const LONGEST_STRAIGHT: u64 = 30_000_000;
 
 fn has_wall(section: &Section) -> bool
@@ -146,4 +148,58 @@ fn are_named(values: &OneStraight) -> bool
         && straight.section == values.section.name
         && values.first.name != values.second.name
         && are_ends(straight.from, straight.to, values)
+}
+
+fn fit_together(values: &OneStraight) -> bool
+    ensures { IsTrue result ↔ FitTogether values.now }
+{
+    has_wall(&values.section) && are_named(values) && are_near(&values.first, &values.second)
+}
+
+// The model of the lines behind the header.
+fn model(lines: &[u8]) -> Option<OneStraight>
+    ensures { MatchOption result ((m : OneStraight) → ¬ (IsModelOf lines.now m)) (IsModelOf lines.now) }
+{
+    let mut fields = Fields::new(lines);
+    let values = fields.values()?;
+    if fields.is_at_end() && fit_together(&values) {
+        Some(values)
+    } else {
+        None
+    }
+}
+
+fn after_header(text: &[u8]) -> Option<&[u8]>
+    ensures { MatchOption result (¬ (HasHeader text.now)) (λ rest. text.now ≡ header ++ rest.now) }
+{
+    text.strip_prefix(HEADER)
+}
+
+fn judged(text: &[u8]) -> Result<OneStraight, Refusal>
+    ensures read { IfOk result (IsTextOf text.now) }
+    ensures refused { IfErr result (λ refusal. IsRefused refusal text.now) }
+{
+    if text.len() > LIMIT {
+        return Err(Refusal::TooLong);
+    }
+    let Some(lines) = after_header(text) else {
+        return Err(Refusal::Header);
+    };
+    match model(lines) {
+        Some(model) => Ok(model),
+        None => Err(Refusal::Unbuilt),
+    }
+}
+
+/// The model of a text.
+pub fn read(text: &[u8]) -> Result<OneStraight, Refusal>
+    // What is read is what the text says, and what a text says is read.
+    ensures read { IfOk result (IsTextOf text.now) }
+    ensures only { (m : OneStraight) → IsTextOf text.now m → result ≡ Ok m }
+
+    // Each refusal comes exactly where it is due.
+    ensures refused { IfErr result (λ refusal. IsRefused refusal text.now) }
+    ensures exact { (refusal : Refusal) → IsRefused refusal text.now → result ≡ Err refusal }
+{
+    judged(text)
 }

@@ -11,6 +11,7 @@ const FARTHEST: i64 = 10_000_000_000;
 
 /// A reader of fields, each ended by a byte. It is seen as what is left of the text. A step that gives `None` leaves
 /// it anywhere.
+#[derive(Drop)]
 pub struct Fields<'a> {
     rest: &'a [u8],
 }
