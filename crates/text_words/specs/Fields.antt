@@ -1,7 +1,7 @@
 -- The lines of a text, and what stands before and after a byte.
 use Rattle.std.specs.Prelude.{◌≡◌, ℕ, ◌+◌, List, [], ◌∷◌, ◌++◌, Option, None, Some, take, drop, ◌==◌, false, All, position}
 use Rattle.std.specs.Option.{option_map}
-use Rattle.std.specs.List.{slice_split}
+use Rattle.std.specs.List.{join_with_byte, slice_split}
 
 -- the lines of a text: what stands between its line feeds. After a line feed at the end one empty line follows
 abbrev pub lines : List ℕ → List (List ℕ)
@@ -24,3 +24,7 @@ Lacks end bytes = All (λ b. (b == end) ≡ false) bytes
 pub record IsSplit (end : ℕ) (bytes front rest : List ℕ) : Type 0 where
   pub whole : bytes ≡ front ++ end ∷ rest
   pub lacks : Lacks end front
+
+-- a line: its words with single spaces between them, and a line feed
+unfoldable pub line : List (List ℕ) → List ℕ
+line words = join_with_byte 32 words ++ 10 ∷ []

@@ -1,6 +1,8 @@
-ghost use Rattle.std.specs.Prelude.{◌≡◌, ◌∷◌, ◌==◌, position, option_copied, MatchOption};
+ghost use Rattle.std.specs.Prelude.{◌≡◌, ◌∷◌, ◌++◌, ◌==◌, map, position, option_copied, MatchOption, OnOk};
 ghost use Rattle.std.specs.Option.{option_map};
-ghost use Rattle.text_words.specs.Fields.{lines, lines_left, split_at_first, Lacks, IsSplit};
+ghost use Rattle.text_words.specs.Fields.{line, lines, lines_left, split_at_first, Lacks, IsSplit};
+
+use std::alloc::AllocError;
 
 fn position(bytes: &[u8], end: u8) -> Option<usize>
     ensures { result ≡ position (λ b. b == end) bytes.now }
@@ -26,4 +28,19 @@ pub fn cut_line(text: &[u8]) -> (&[u8], Option<&[u8]>)
         Some((line, rest)) => (line, Some(rest)),
         None => (text, None),
     }
+}
+
+/// Writes a line at the end: the words with single spaces between them, and a line feed.
+#[tactic(auto, unfolding(crate::specs::Fields::line))]
+pub fn push_line(out: &mut Vec<u8>, words: &[&[u8]]) -> Result<(), AllocError>
+    ensures { OnOk result (out.new.items ≡ out.old.items ++ line (map (λ word. word.now) words.now)) }
+{
+    for (i, word) in words.iter().enumerate() {
+        if i > 0 {
+            out.push(b' ')?;
+        }
+        out.extend_from_slice(word)?;
+    }
+    out.push(b'\n')?;
+    Ok(())
 }

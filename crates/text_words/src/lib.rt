@@ -5,9 +5,9 @@ mod fields;
 mod names;
 mod numbers;
 
-pub use fields::{cut_line, split_once};
+pub use fields::{cut_line, push_line, split_once};
 pub use names::Name;
-pub use numbers::{NumberFault, number, push_number};
+pub use numbers::{NumberFault, number};
 
 #[cfg(test)]
 mod tests;

@@ -4,8 +4,6 @@ ghost use Rattle.std.specs.Char.{is_ascii_digit};
 ghost use Rattle.std.specs.Str.Parse.{digits_value};
 ghost use Rattle.text_words.specs.Numbers.{IsNumber, number_of, has_number_form, is_plain_digits, has_sign, digits_part, signed_value};
 
-use itoa::{Buffer, Integer};
-use std::alloc::AllocError;
 use thiserror::Error;
 
 const MOST_DIGITS: usize = 18;
@@ -97,13 +95,4 @@ pub fn number(word: &[u8]) -> Result<i64, NumberFault>
     ensures only { (n : ℤ) → IsNumber word.now n → result ≡ Ok n }
 {
     represented(word)
-}
-
-/// Writes a number's decimal form at the end.
-pub fn push_number<I: Integer>(out: &mut Vec<u8>, n: I) -> Result<(), AllocError>
-    ensures ok { OnOk result (out.new.items ≡ out.old.items ++ I.text n) }
-    ensures err { OnErr result (out.new.items ≡ out.old.items) }
-{
-    let mut buffer = Buffer::new();
-    out.extend_from_slice(buffer.format(n).as_bytes())
 }

@@ -24,11 +24,11 @@ fn reads_numbers(rt: HostRuntime) {
 }
 
 #[test]
-fn writes_numbers(rt: HostRuntime) -> Result<(), Fail> {
+fn writes_lines(rt: HostRuntime) -> Result<(), Fail> {
     let mut out = Vec::new(rt.alloc());
-    push_number(&mut out, -120i64)?;
-    push_number(&mut out, 7u32)?;
-    assert_eq!(rt; out.as_slice(), b"-1207".as_slice());
+    push_line(&mut out, &[b"end"])?;
+    push_line(&mut out, &[b"node", b"a", b"-1"])?;
+    assert_eq!(rt; out.as_slice(), b"end\nnode a -1\n".as_slice());
     Ok(())
 }
 
