@@ -1,10 +1,10 @@
 -- What the first place of a byte says of the parts before and after it.
-use Rattle.std.proofs.Common.{◌≡◌, ℕ, suc, Bool, Option, nat_lt, refl, length-append, ◌+◌, ◌<◌, ◌≤◌, ◌==◌, List, ◌∷◌, ◌++◌, None, Some, take, drop, length, length-take-le, get_or, false, position, sym, ◌∙◌, ap, arith, add-one}
+use Rattle.std.proofs.Common.{◌≡◌, ℕ, suc, Bool, Option, nat_lt, refl, length-append, ◌+◌, ◌<◌, ◌≤◌, ◌==◌, List, ◌∷◌, ◌++◌, None, Some, take, drop, length, length-take-le, get_or, position, sym, ◌∙◌, ap, arith, add-one}
 use Rattle.std.proofs.Math.Seq.{drop-cons, get_or-append_seam, take-append_seam, drop-append-add}
 use Rattle.std.proofs.lemmas.Bool.{cond-true, lt-ltb, eq-eqb}
 use Rattle.std.specs.Option.{option_map}
 use Rattle.std.proofs.lemmas.Bool.Decides.{nat_tests}
-use Rattle.std.proofs.lemmas.List.{take-append-drop, get_or-take, get_or_append_left, take_at, drop_at}
+use Rattle.std.proofs.lemmas.List.{take-append-drop, get_or-take, get_or_append_left}
 use Rattle.std.proofs.lemmas.List.Sums.{fails_before_first, position_or_len_is}
 use Rattle.std.proofs.lemmas.List.Quantifiers.{position-Some}
 use Rattle.std.specs.List.{position_or_len}
@@ -33,7 +33,7 @@ found_after end front rest lacks =
     let bytes : List ℕ = front ++ end ∷ rest in
     let longer : length bytes ≡ length front + suc (length rest) = length-append front (end ∷ rest) in
     let first : position_or_len p bytes ≡ length front =
-        position_or_len_is p bytes (length front) 0 (omega arith) (λ k before. rw (get_or_append_left front (end ∷ rest) 0 k before) (lacks k 0 before)) (λ inside. rw (get_or-append_seam front end rest 0) (eq-eqb end end refl)) in
+    position_or_len_is p bytes (length front) 0 (omega arith) (λ k before. rw (get_or_append_left front (end ∷ rest) 0 k before) (lacks k 0 before)) (λ inside. rw (get_or-append_seam front end rest 0) (eq-eqb end end refl)) in
     rw first (cond-true (nat_lt (length front) (length bytes)) _ _ (lt-ltb (length front) (length bytes) (omega arith)))
 
 -- the parts round a place

@@ -1,4 +1,4 @@
-use Rattle.std.proofs.Common.{◌≡◌, ◌+◌, None, Some, ◌==◌, position, sym, ◌∙◌, rules}
+use Rattle.std.proofs.Common.{◌+◌, sym}
 use Rattle.std.proofs.lemmas.List.{take_rest}
 use Rattle.text_words.proofs.FieldLemmas.{lacks_from_none, split_from_some}
 use Rattle.text_words.proofs.fields.split_once.Goals as goal
