@@ -13,12 +13,12 @@ use Rattle.std.specs.List.{join_with_byte, list_all}
 use Rattle.std.specs.Result.{result_ok}
 use Rattle.std.specs.Str.{bytes_eq}
 use Rattle.text_words.specs.declared.numbers.NumberFault.{NumberFault}
-use Rattle.text_words.specs.Fields.{Lacks, IsSplit, split_at_first}
+use Rattle.text_words.specs.Fields.{line, Lacks, IsSplit, split_at_first}
 use Rattle.text_words.specs.Names.{is_name, is_name_byte}
 use Rattle.text_words.specs.Numbers.{IsNumber, number_of}
 use Rattle.text_words.proofs.FieldLemmas.{split_at_first-IsSplit, IsSplit-split_at_first}
 use Rattle.text_words.proofs.NumberLemmas.{own, IsNumber-number_of, number_of-IsNumber}
-use Rattle.pipeflex_top.specs.OneStraight.{line, IsBetween}
+use Rattle.pipeflex_top.specs.OneStraight.{IsBetween}
 use Rattle.pipeflex_top.specs.Reading.{◌>>=◌, and_then, keyword_at, name_at, number_at}
 
 -- the value of a step that did not fail

@@ -1,17 +1,14 @@
 -- The text of one straight: its values, their ranges, and how they are written.
 use Rattle.std.specs.Prelude.{◌≡◌, ◌≢◌, ◌⊎◌, ℕ, ◌+◌, ◌≤◌, ℤ, pos, negsuc, ◌-ℤ◌, ◌*ℤ◌, ◌≤ℤ◌, ◌<ℤ◌, unsigned_abs, IsTrue, List, [], ◌∷◌, ◌++◌, codes}
 use Rattle.std.specs.Fmt.{signed_decimal}
-use Rattle.std.specs.List.{join_with_byte, concat}
+use Rattle.std.specs.List.{concat}
+use Rattle.text_words.specs.Fields.{line}
 use Rattle.text_words.specs.Names.{is_name}
 use Rattle.pipeflex_top.specs.declared.one_straight.Material.{Material}
 use Rattle.pipeflex_top.specs.declared.one_straight.Section.{Section}
 use Rattle.pipeflex_top.specs.declared.one_straight.Node.{Node}
 use Rattle.pipeflex_top.specs.declared.one_straight.Straight.{Straight}
 use Rattle.pipeflex_top.specs.declared.one_straight.OneStraight.{OneStraight}
-
--- a line: its words with single spaces between them, and a line feed
-unfoldable pub line : List (List ℕ) → List ℕ
-line words = join_with_byte 32 words ++ 10 ∷ []
 
 -- the line with which each text begins
 abbrev pub header : List ℕ

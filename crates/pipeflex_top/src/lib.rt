@@ -1,8 +1,12 @@
 //! From the text of a piping model to its report.
 #![tactic(auto)]
 
+pub mod member_table;
 pub mod one_straight;
 mod pi;
 mod reading;
 mod stiffness;
 pub mod straight;
+
+#[cfg(test)]
+mod tests;

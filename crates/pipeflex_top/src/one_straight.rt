@@ -1,7 +1,7 @@
-ghost use Rattle.std.specs.Prelude.{◌≡◌, ◌↔◌, ◌++◌, IsTrue, MatchOption, IfOk, IfErr, Ok, Err};
+ghost use Rattle.std.specs.Prelude.{◌≡◌, ◌↔◌, ◌++◌, IsTrue, pos, MatchOption, IfOk, IfErr, Ok, Err};
 ghost use Rattle.pipeflex_top.specs.declared.one_straight.OneStraight.{OneStraight};
 ghost use Rattle.pipeflex_top.specs.declared.one_straight.Refusal.{Refusal};
-ghost use Rattle.pipeflex_top.specs.OneStraight.{IsTextOf, IsModelOf, header, FitTogether, HasWall, AreNamed, AreEnds, AreAligned, AreNear, distance};
+ghost use Rattle.pipeflex_top.specs.OneStraight.{IsTextOf, IsModelOf, header, FitTogether, HasWall, AreNamed, AreEnds, AreAligned, AreNear, distance, span_of};
 ghost use Rattle.pipeflex_top.specs.Refusal.{IsRefused, HasHeader, refusal_number, refusal_word};
 
 use crate::reading::Fields;
@@ -63,6 +63,16 @@ pub struct OneStraight {
     pub first: Node,
     pub second: Node,
     pub straight: Straight,
+}
+
+impl OneStraight {
+    /// The length of the straight, in micrometres.
+    pub fn span(&self) -> i64
+        requires { AreNear self.now.first self.now.second }
+        ensures { result ≡ pos (span_of self.now) }
+    {
+        distance(&self.first, &self.second) as i64
+    }
 }
 
 /// Why a text is refused. Each refusal is at line 1.
