@@ -41,37 +41,37 @@ number_short least most n short between =
 material_short : (m : Material) → IsMaterial m → length (material_line m) ≤ 110
 material_short m is =
     longer _ _ _ 8 101 (lit≤ tt) (
-      longer _ _ _ 16 84 (name_short _ is.name) (
-        longer _ _ _ 20 63 (number_short _ _ _ refl is.e) (
-          longer _ _ _ 20 42 (number_short _ _ _ refl is.nu) (
-            longer _ _ _ 20 21 (number_short _ _ _ refl is.alpha) (
-              last _ 20 (number_short _ _ _ refl is.rho))))))
+    longer _ _ _ 16 84 (name_short _ is.name) (
+    longer _ _ _ 20 63 (number_short _ _ _ refl is.e) (
+    longer _ _ _ 20 42 (number_short _ _ _ refl is.nu) (
+    longer _ _ _ 20 21 (number_short _ _ _ refl is.alpha) (
+    last _ 20 (number_short _ _ _ refl is.rho))))))
 
 section_short : (s : Section) → IsSection s → length (section_line s) ≤ 126
 section_short s is =
     longer _ _ _ 7 118 (lit≤ tt) (
-      longer _ _ _ 16 101 (name_short _ is.name) (
-        longer _ _ _ 16 84 (name_short _ is.material) (
-          longer _ _ _ 20 63 (number_short _ _ _ refl is.d) (
-            longer _ _ _ 20 42 (number_short _ _ _ refl is.t) (
-              longer _ _ _ 20 21 (number_short _ _ _ refl is.allowance) (
-                last _ 20 (number_short _ _ _ refl is.extra)))))))
+    longer _ _ _ 16 101 (name_short _ is.name) (
+    longer _ _ _ 16 84 (name_short _ is.material) (
+    longer _ _ _ 20 63 (number_short _ _ _ refl is.d) (
+    longer _ _ _ 20 42 (number_short _ _ _ refl is.t) (
+    longer _ _ _ 20 21 (number_short _ _ _ refl is.allowance) (
+    last _ 20 (number_short _ _ _ refl is.extra)))))))
 
 node_short : (n : Node) → IsNode n → length (node_line n) ≤ 85
 node_short n is =
     longer _ _ _ 4 80 (lit≤ tt) (
-      longer _ _ _ 16 63 (name_short _ is.name) (
-        longer _ _ _ 20 42 (number_short _ _ _ refl is.x) (
-          longer _ _ _ 20 21 (number_short _ _ _ refl is.y) (
-            last _ 20 (number_short _ _ _ refl is.z)))))
+    longer _ _ _ 16 63 (name_short _ is.name) (
+    longer _ _ _ 20 42 (number_short _ _ _ refl is.x) (
+    longer _ _ _ 20 21 (number_short _ _ _ refl is.y) (
+    last _ 20 (number_short _ _ _ refl is.z)))))
 
 straight_short : (s : Straight) → IsStraight s → length (straight_line s) ≤ 77
 straight_short s is =
     longer _ _ _ 8 68 (lit≤ tt) (
-      longer _ _ _ 16 51 (name_short _ is.name) (
-        longer _ _ _ 16 34 (name_short _ is.from) (
-          longer _ _ _ 16 17 (name_short _ is.to) (
-            last _ 16 (name_short _ is.section)))))
+    longer _ _ _ 16 51 (name_short _ is.name) (
+    longer _ _ _ 16 34 (name_short _ is.from) (
+    longer _ _ _ 16 17 (name_short _ is.to) (
+    last _ 16 (name_short _ is.section)))))
 
 header_short : length header ≤ 11
 unfolding line

@@ -7,6 +7,3 @@ mod pi;
 mod reading;
 mod stiffness;
 pub mod straight;
-
-#[cfg(test)]
-mod tests;

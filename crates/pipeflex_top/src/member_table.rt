@@ -110,3 +110,6 @@ pub fn member_table(alloc: Global, text: &[u8]) -> Result<Vec<u8>, TableFault>
         Err(AllocError) => Err(TableFault::NoMemory),
     }
 }
+
+#[cfg(test)]
+mod tests;

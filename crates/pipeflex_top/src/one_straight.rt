@@ -213,3 +213,6 @@ pub fn read(text: &[u8]) -> Result<OneStraight, Refusal>
 {
     judged(text)
 }
+
+#[cfg(test)]
+mod tests;

@@ -62,7 +62,11 @@ impl<'a> Fields<'a> {
         let (field, rest) = split_once(self.rest, end)?;
         self.rest = rest;
         let n = number(field).ok()?;
-        if least <= n && n <= most { Some(n) } else { None }
+        if least <= n && n <= most {
+            Some(n)
+        } else {
+            None
+        }
     }
 
     #[tactic(auto, unfolding(crate::specs::Reading::coordinate_at))]

@@ -19,8 +19,8 @@ pub returns-else-is_at_end : goal.returns-else-is_at_end
 returns-else-is_at_end c m is =
     let read = ap values_at (sym c.new-fields.ensures) ∙ c.in_ok-values.ensures in
     elim c.else-is_at_end.branch [
-      else-is_at_end-via-then-is_at_end+else-fit_together w ↦
-        no_model_apart c.args.lines.now c.values.new.self c.in_ok-values.values read (λ fits. false≢true (w.if-fit_together.ensures.1 fits)) m is
+      | else-is_at_end-via-then-is_at_end+else-fit_together w ↦
+          no_model_apart c.args.lines.now c.values.new.self c.in_ok-values.values read (λ fits. false≢true (w.if-fit_together.ensures.1 fits)) m is
       | else-is_at_end-via-else-is_at_end w ↦
-        no_model_longer c.args.lines.now c.values.new.self c.in_ok-values.values read (λ empty. false≢true (w.if-is_at_end.ensures.1 empty)) m is
+          no_model_longer c.args.lines.now c.values.new.self c.in_ok-values.values read (λ empty. false≢true (w.if-is_at_end.ensures.1 empty)) m is
     ]

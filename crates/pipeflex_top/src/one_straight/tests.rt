@@ -1,5 +1,4 @@
-use crate::member_table::{TableFault, member_table};
-use crate::one_straight::{LIMIT, Refusal, read};
+use super::*;
 use std::alloc::{AllocError, Global};
 use std::test::Fail;
 
@@ -48,7 +47,11 @@ fn judges_lines(rt: HostRuntime) -> Result<(), Fail> {
         (1, b"material st 200000 500 12000 7850\n", unbuilt),
         (1, b"material st 200000 -0 12000 7850\n", unbuilt),
         (1, b"material st 200000 0300 12000 7850\n", unbuilt),
-        (1, b"material st 100000000000000000000000000000 300 12000 7850\n", unbuilt),
+        (
+            1,
+            b"material st 100000000000000000000000000000 300 12000 7850\n",
+            unbuilt,
+        ),
         (1, b"material  st 200000 300 12000 7850\n", unbuilt),
         (1, b"material st 200000 300 12000 7850 \n", unbuilt),
         (1, b"material st 200000 300 12000\n", unbuilt),
@@ -88,7 +91,10 @@ fn judges_texts(rt: HostRuntime) -> Result<(), Fail> {
     assert_eq!(rt; read(&long).err(), Some(Refusal::TooLong));
     assert_eq!(rt; read(&long[1..]).err(), Some(Refusal::Header));
     assert_eq!(rt; read(b"").err(), Some(Refusal::Header));
-    assert_eq!(rt; read(b"\xFF\xFEp\0i\0p\0e\0f\0l\0e\0x\0").err(), Some(Refusal::Header));
+    assert_eq!(rt;
+        read(b"\xFF\xFEp\0i\0p\0e\0f\0l\0e\0x\0").err(),
+        Some(Refusal::Header)
+    );
     assert_eq!(rt; read(b"pipeflex 1\n").err(), Some(Refusal::Unbuilt));
     Ok(())
 }
@@ -104,24 +110,4 @@ fn names_refusals(rt: HostRuntime) {
         assert_eq!(rt; refusal.number(), number);
         assert_eq!(rt; refusal.word(), word);
     }
-}
-
-#[test]
-fn writes_the_table(rt: HostRuntime) -> Result<(), Fail> {
-    let text = text_with(rt.alloc(), 0, b"pipeflex 1\n")?;
-    let want = b"pipeflex members 1
-element p straight 8
-kappa 1 592955758499502 592955758499503
-kappa 2 467522809585 467522809587
-kappa 3 607779652461 607779652462
-kappa 4 607779652461 607779652462
-kappa 5 607779652461 607779652462
-kappa 6 7293355829532 7293355829544
-kappa 7 7293355829532 7293355829544
-kappa 8 7293355829532 7293355829544
-end
-";
-    assert_eq!(rt; member_table(rt.alloc(), &text)?.as_slice(), want.as_slice());
-    assert_eq!(rt; member_table(rt.alloc(), b"").err(), Some(TableFault::Refused(Refusal::Header)));
-    Ok(())
 }
