@@ -1,5 +1,5 @@
 -- What each step of the reader takes is what is written, and what is written is taken.
-use Rattle.std.proofs.Common.{◌≡◌, ℕ, ◌<◌, ◌≤◌, ◌^◌, ◌==◌, nat_eq, Bool, true, false, cond, not, ◌&&◌, IsTrue, ℤ, pos, negsuc, int_le, ◌≤ℤ◌, unsigned_abs, List, [], ◌∷◌, ◌++◌, length, get_or, All, Option, None, Some, Result, Ok, Err, refl, sym, ap, ◌∙◌, subst, append_assoc, arith}
+use Rattle.std.proofs.Common.{◌≡◌, ℕ, ◌<◌, ◌≤◌, ◌^◌, ◌==◌, Bool, true, false, cond, not, ◌&&◌, IsTrue, ℤ, pos, negsuc, int_le, unsigned_abs, List, [], ◌∷◌, ◌++◌, get_or, All, Option, None, Some, Result, Ok, Err, refl, sym, ap, ◌∙◌, subst, append_assoc, arith}
 use Rattle.std.proofs.lemmas.Bool.{and_parts, and_from, ne_eqb, not-true}
 use Rattle.std.proofs.lemmas.Bool.Decides.{nat_tests}
 use Rattle.std.proofs.lemmas.Fmt.{digits_decimal}
@@ -9,13 +9,12 @@ use Rattle.std.proofs.lemmas.List.Sums.{AllPass-from_list_all}
 use Rattle.std.proofs.lemmas.Slice.Eq.{bytes_eq-Decides}
 use Rattle.std.specs.Char.{is_ascii_digit}
 use Rattle.std.specs.Fmt.{decimal, signed_decimal}
-use Rattle.std.specs.List.{join_with_byte, list_all}
+use Rattle.std.specs.List.{list_all}
 use Rattle.std.specs.Result.{result_ok}
 use Rattle.std.specs.Str.{bytes_eq}
 use Rattle.text_words.specs.declared.numbers.NumberFault.{NumberFault}
-use Rattle.text_words.specs.Fields.{line, Lacks, IsSplit, split_at_first}
+use Rattle.text_words.specs.Fields.{line, Lacks, split_at_first}
 use Rattle.text_words.specs.Names.{is_name, is_name_byte}
-use Rattle.text_words.specs.Numbers.{IsNumber, number_of}
 use Rattle.text_words.proofs.FieldLemmas.{split_at_first-IsSplit, IsSplit-split_at_first}
 use Rattle.text_words.proofs.NumberLemmas.{own, IsNumber-number_of, number_of-IsNumber}
 use Rattle.pipeflex_top.specs.OneStraight.{IsBetween}

@@ -1,8 +1,7 @@
 -- The text of one straight is short.
-use Rattle.std.proofs.Common.{◌≡◌, ℕ, ◌+◌, ◌<◌, ◌≤◌, ◌^◌, true, ◌++◌, IsTrue, unsigned_abs, ℤ, pos, negsuc, List, [], ◌∷◌, length, refl, length-append, arith, lit≤}
+use Rattle.std.proofs.Common.{◌≡◌, ℕ, ◌+◌, ◌≤◌, true, ◌++◌, IsTrue, unsigned_abs, ℤ, pos, negsuc, List, [], ◌∷◌, length, refl, length-append, arith, lit≤}
 use Rattle.std.proofs.lemmas.Bool.{and_parts, leb-true}
 use Rattle.std.proofs.lemmas.Fmt.{length_signed_le}
-use Rattle.std.proofs.lemmas.Int.{ints}
 use Rattle.std.specs.Fmt.{signed_decimal}
 use Rattle.std.specs.List.{join_with_byte}
 use lib.Signed.{mag}
@@ -13,7 +12,7 @@ use Rattle.pipeflex_top.specs.declared.one_straight.Section.{Section}
 use Rattle.pipeflex_top.specs.declared.one_straight.Node.{Node}
 use Rattle.pipeflex_top.specs.declared.one_straight.Straight.{Straight}
 use Rattle.pipeflex_top.specs.declared.one_straight.OneStraight.{OneStraight}
-use Rattle.pipeflex_top.specs.OneStraight.{header, material_line, section_line, node_line, straight_line, record_lines, written, IsBetween, IsMaterial, IsSection, IsNode, IsStraight, AreInRange}
+use Rattle.pipeflex_top.specs.OneStraight.{header, material_line, section_line, node_line, straight_line, written, IsBetween, IsMaterial, IsSection, IsNode, IsStraight, AreInRange}
 use Rattle.pipeflex_top.proofs.LineLemmas.{is_short, short_in}
 
 longer : (word next : List ℕ) (words : List (List ℕ)) (a b : ℕ) → length word ≤ a → length (line (next ∷ words)) ≤ b → length (line (word ∷ next ∷ words)) ≤ a + 1 + b

@@ -1,5 +1,5 @@
 -- Each line is read as it is written.
-use Rattle.std.proofs.Common.{◌≡◌, ℕ, ◌<◌, ◌≤◌, ◌^◌, true, ◌==◌, ◌≤ℤ◌, int_le, Bool, not, ◌&&◌, IsTrue, ℤ, pos, negsuc, unsigned_abs, List, [], ◌∷◌, ◌++◌, Option, None, Some, refl, sym, ap, ◌∙◌, subst, arith}
+use Rattle.std.proofs.Common.{◌≡◌, ℕ, ◌<◌, ◌^◌, true, ◌==◌, ◌≤ℤ◌, int_le, Bool, not, ◌&&◌, IsTrue, ℤ, pos, negsuc, unsigned_abs, List, [], ◌∷◌, ◌++◌, Some, refl, ap, ◌∙◌, subst, arith}
 use Rattle.std.proofs.lemmas.Int.{ints}
 use Rattle.std.proofs.lemmas.Bool.{and_parts}
 use Rattle.std.specs.List.{list_all}
@@ -12,7 +12,7 @@ use Rattle.pipeflex_top.specs.declared.one_straight.Node.{Node}
 use Rattle.pipeflex_top.specs.declared.one_straight.Straight.{Straight}
 use Rattle.pipeflex_top.specs.declared.one_straight.OneStraight.{OneStraight}
 use Rattle.pipeflex_top.specs.OneStraight.{material_line, section_line, node_line, straight_line, record_lines, IsBetween, IsMaterial, IsSection, IsNode, IsStraight, AreInRange}
-use Rattle.pipeflex_top.specs.Reading.{◌>>=◌, and_then, keyword_at, name_at, number_at, coordinate_at, material_at, section_at, node_at, straight_at, values_at}
+use Rattle.pipeflex_top.specs.Reading.{keyword_at, name_at, number_at, coordinate_at, material_at, section_at, node_at, straight_at, values_at}
 use Rattle.pipeflex_top.proofs.FieldLemmas.{some_is, after_some, with_some, line_begun, line_ended, line-cons, line-last, keyword_takes, keyword_again, name_takes, name_again, number_takes, number_again}
 
 -- ---- fields of a line

@@ -1,11 +1,11 @@
 -- The lines are those of one model at most, and a text is judged in one way.
-use Rattle.std.proofs.Common.{◌≡◌, ◌≢◌, ℕ, ◌≤◌, ◌++◌, List, [], length, Option, None, Some, Result, Ok, Err, MatchOption, Bor, codes, IfOk, IfErr, refl, sym, ap, ◌∙◌, subst, arith}
+use Rattle.std.proofs.Common.{◌≡◌, ◌≢◌, ℕ, ◌≤◌, ◌++◌, List, [], length, Option, None, Some, Result, Ok, Err, MatchOption, Bor, codes, IfOk, IfErr, refl, sym, ap, ◌∙◌, subst}
 use Rattle.std.proofs.lemmas.List.{append_cancel_left}
 use Rattle.text_words.specs.Fields.{line}
 use Rattle.pipeflex_top.specs.declared.one_straight.OneStraight.{OneStraight}
 use Rattle.pipeflex_top.specs.declared.one_straight.Refusal.{Refusal}
 use Rattle.pipeflex_top.specs.declared.one_straight.Refusal.TheVariants.{TooLong, Header, Unbuilt}
-use Rattle.pipeflex_top.specs.OneStraight.{header, record_lines, written, FitTogether, IsModelOf, IsTextOf}
+use Rattle.pipeflex_top.specs.OneStraight.{header, record_lines, FitTogether, IsModelOf, IsTextOf}
 use Rattle.pipeflex_top.specs.Reading.{values_at}
 use Rattle.pipeflex_top.specs.Refusal.{HasHeader, IsRefused}
 use Rattle.pipeflex_top.proofs.FieldLemmas.{some_is}

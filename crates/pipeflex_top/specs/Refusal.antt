@@ -1,5 +1,5 @@
 -- Why a text is refused.
-use Rattle.std.specs.Prelude.{◌≡◌, ℕ, ◌<◌, ◌≤◌, List, [], ◌∷◌, ◌++◌, length, codes}
+use Rattle.std.specs.Prelude.{◌≡◌, ℕ, ◌≤◌, List, ◌++◌, length, codes}
 use Rattle.pipeflex_top.specs.declared.one_straight.OneStraight.{OneStraight}
 use Rattle.pipeflex_top.specs.declared.one_straight.Refusal.{Refusal}
 use Rattle.pipeflex_top.specs.declared.one_straight.Refusal.TheVariants.{TooLong, Header, Unbuilt}
