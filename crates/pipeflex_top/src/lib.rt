@@ -1,6 +1,9 @@
-// From the text of a piping model to its report.
+//! From the text of a piping model to its report.
 #![tactic(auto)]
 
+pub mod member_table;
+pub mod one_straight;
 mod pi;
+mod reading;
 mod stiffness;
 pub mod straight;

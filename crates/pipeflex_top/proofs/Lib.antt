@@ -1,0 +1,4 @@
+mod FieldLemmas
+mod LengthLemmas
+mod LineLemmas
+mod ModelLemmas
