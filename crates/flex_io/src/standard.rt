@@ -1,5 +1,8 @@
-//! Streams over the standard readers and writers. They tell nothing of what they give or take.
-ghost use Rattle.std.specs.Prelude.{◌≡◌, ◌<◌, ◌≤◌, None, IfOk, length};
+//! Streams over the standard readers and writers. They tell of their bytes what these tell: all of
+//! a text in memory, and nothing of a file, a pipe or a terminal.
+ghost use Rattle.std.specs.Prelude.{◌≡◌, ◌<◌, ◌≤◌, None, IfOk, OnErr, length, take};
+ghost use Rattle.std.specs.Io.KnownBytes.{Appends, Consumes, Keeps};
+ghost use Rattle.flex_io.specs.Source.{EndsAtZero};
 
 use super::streams::{Failed, Sink, Source};
 use std::io::{ErrorKind, Read, Write};
@@ -22,7 +25,7 @@ impl<R: Read> StdSource<R> {
 }
 
 impl<R: Read> Source for StdSource<R> {
-    ghost left = { λ _. None };
+    ghost left = { λ s. R.remaining s.inner };
 
     ghost faults = { λ s. s.faults };
 
@@ -37,7 +40,11 @@ impl<R: Read> Source for StdSource<R> {
 
 // One read, tried again where a signal interrupts it.
 fn read_on<R: Read>(reader: &mut R, buf: &mut [u8]) -> Result<usize, Failed>
-    ensures { IfOk result (λ n. n ≤ length buf.new) }
+    requires { 0 < length buf.old }
+    ensures bound { IfOk result (λ n. n ≤ length buf.new) }
+    ensures taken { IfOk result (λ n. Consumes (R.remaining reader.old) (R.remaining reader.new) (take n buf.new)) }
+    ensures end { IfOk result (EndsAtZero (R.remaining reader.old)) }
+    ensures kept { OnErr result (Keeps (R.remaining reader.old) (R.remaining reader.new)) }
 {
     for _ in 0..u64::MAX {
         match reader.read(buf) {
@@ -67,7 +74,7 @@ impl<W: Write> StdSink<W> {
 }
 
 impl<W: Write> Sink for StdSink<W> {
-    ghost held = { λ _. None };
+    ghost held = { λ s. W.contents s.inner };
 
     ghost faults = { λ s. s.faults };
 
@@ -86,6 +93,8 @@ impl<W: Write> Sink for StdSink<W> {
 fn write_on<W: Write>(writer: &mut W, piece: &[u8]) -> Result<usize, Failed>
     ensures some { IfOk result (λ n. 0 < n) }
     ensures bound { IfOk result (λ n. n ≤ length piece.now) }
+    ensures added { IfOk result (λ n. Appends (W.contents writer.old) (W.contents writer.new) (take n piece.now)) }
+    ensures kept { OnErr result (Keeps (W.contents writer.old) (W.contents writer.new)) }
 {
     for _ in 0..u64::MAX {
         match writer.write(piece) {
