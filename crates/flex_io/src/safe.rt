@@ -3,8 +3,9 @@ ghost use Rattle.std.specs.Prelude.{◌≡◌, ◌+◌, ◌-◌, ◌<◌, ◌≤
 ghost use Rattle.std.specs.Io.KnownBytes.{Appends, Consumes, Keeps};
 ghost use Rattle.flex_io.specs.Fault.{Rose};
 
+use super::NoMemory;
 use super::streams::{Failed, Sink, Source};
-use std::alloc::{AllocError, Global};
+use std::alloc::Global;
 use std::marker::Model;
 
 /// A source over bytes in memory that never fails. Clauses see it as the bytes that it has left.
@@ -77,7 +78,7 @@ impl Model for SafeSink {
 
 impl SafeSink {
     /// An empty sink with room for `size` bytes.
-    pub fn new(alloc: Global, size: usize) -> Result<SafeSink, AllocError>
+    pub fn new(alloc: Global, size: usize) -> Result<SafeSink, NoMemory>
         ensures { IfOk result (λ s. s ≡ record { bytes = []; room = size; faults = 0 }) }
     {
         Ok(SafeSink {

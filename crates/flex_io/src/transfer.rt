@@ -6,7 +6,7 @@ ghost use Rattle.flex_io.specs.Source.{ConsumesAtMost, EndsAtZero};
 ghost use Rattle.flex_io.specs.Sink.{AppendsPrefix, HasRoom, room_after};
 
 use super::streams::{Failed, Sink, Source};
-use std::alloc::{AllocError, Global};
+use std::alloc::Global;
 use thiserror::Error;
 
 /// Why a text was not taken.

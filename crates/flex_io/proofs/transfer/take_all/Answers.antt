@@ -1,4 +1,4 @@
-use Rattle.std.proofs.Common.{◌≡◌, ◌+◌, ℕ, List, Option, ◌++◌, rules, arith, sym, ap, subst, ◌∙◌, take, drop, length, take_at}
+use Rattle.std.proofs.Common.{◌≡◌, ◌+◌, ℕ, List, Option, ◌++◌, arith, sym, ap, subst, ◌∙◌, take, drop, length, take_at}
 use Rattle.std.proofs.Math.Seq.{take-add}
 use Rattle.std.specs.Io.KnownBytes.{Consumes}
 use Rattle.std.proofs.KnownBytes.{Consumes-trans}

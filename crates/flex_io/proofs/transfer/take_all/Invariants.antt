@@ -1,4 +1,4 @@
-use Rattle.std.proofs.Common.{◌≡◌, ◌+◌, ◌-◌, ◌≤◌, take, vec_len, vec_items}
+use Rattle.std.proofs.Common.{◌+◌, ◌-◌, ◌≤◌, take, vec_len, vec_items}
 use Rattle.std.specs.Io.KnownBytes.{Consumes}
 use Rattle.flex_io.proofs.transfer.take_all.Given as goal
 
