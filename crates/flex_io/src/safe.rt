@@ -71,7 +71,11 @@ impl Model for SafeSink {
 
     ghost Value = { Store };
 
-    ghost view = { λ s. record { bytes = s.bytes.items; room = s.size - vec_len s.bytes; faults = s.faults } };
+    ghost view = { λ s. record {
+      bytes = s.bytes.items;
+      room = s.size - vec_len s.bytes;
+      faults = s.faults;
+    } };
 
     ghost invariant = { λ s. (vec_len s.bytes ≤ s.size) × (s.size ≤ vec_capacity s.bytes) };
 }
@@ -108,7 +112,8 @@ impl Sink for SafeSink {
         // The whole piece, or nothing where it is longer than the room.
         ensures whole { IfOk result (λ n. n ≡ length piece.now) }
         ensures full { IsErr result ↔ (self.old.room < length piece.now) }
-        ensures added { IfOk result (λ n. Appends (Some self.old.bytes) (Some self.new.bytes) (take n piece.now)) }
+        ensures added { IfOk result (λ n.
+            Appends (Some self.old.bytes) (Some self.new.bytes) (take n piece.now)) }
         ensures failed { OnErr result (Rose self.old.faults self.new.faults) }
         ensures kept { OnErr result (Keeps (Some self.old.bytes) (Some self.new.bytes)) }
         ensures counted { self.old.faults ≤ self.new.faults }

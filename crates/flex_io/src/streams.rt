@@ -21,7 +21,8 @@ pub trait Source {
     fn read(&mut self, buf: &mut [u8]) -> Result<usize, Failed>
         requires { 0 < length buf.old }
         ensures bound { IfOk result (λ n. n ≤ length buf.new) }
-        ensures taken { IfOk result (λ n. Consumes (left self.old) (left self.new) (take n buf.new)) }
+        ensures taken { IfOk result (λ n.
+            Consumes (left self.old) (left self.new) (take n buf.new)) }
         ensures end { IfOk result (EndsAtZero (left self.old)) }
 
         // A read fails only where the count rose, and takes nothing.
@@ -46,7 +47,8 @@ pub trait Sink {
         requires { 0 < length piece.now }
         ensures some { IfOk result (λ n. 0 < n) }
         ensures bound { IfOk result (λ n. n ≤ length piece.now) }
-        ensures added { IfOk result (λ n. Appends (held self.old) (held self.new) (take n piece.now)) }
+        ensures added { IfOk result (λ n.
+            Appends (held self.old) (held self.new) (take n piece.now)) }
 
         // A write fails only where the count rose, and adds nothing.
         ensures failed { OnErr result (Rose (faults self.old) (faults self.new)) }
@@ -55,6 +57,7 @@ pub trait Sink {
 
         // Told room is kept: what fits is taken, and no fault is counted.
         ensures fits { HasRoom (room self.old) (length piece.now) → IsOk result }
-        ensures steady { HasRoom (room self.old) (length piece.now) → faults self.new ≡ faults self.old }
+        ensures steady { HasRoom (room self.old) (length piece.now)
+            → faults self.new ≡ faults self.old }
         ensures room_left { IfOk result (λ n. room self.new ≡ room_after (room self.old) n) };
 }

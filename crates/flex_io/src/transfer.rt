@@ -1,5 +1,5 @@
 //! Whole texts from sources and to sinks.
-ghost use Rattle.std.specs.Prelude.{◌≡◌, ◌+◌, ◌<◌, ◌≤◌, ℕ, List, IfOk, IfSome, IsErrOf, IsOk, OnErr, OnOk, length, take, drop, vec_len};
+ghost use Rattle.std.specs.Prelude.{◌≡◌, ◌+◌, ◌<◌, ◌≤◌, ℕ, List, [], IfOk, IfSome, IsErrOf, IsOk, OnErr, OnOk, length, take, drop, vec_len};
 ghost use Rattle.std.specs.Io.KnownBytes.{Appends, Consumes, Keeps};
 ghost use Rattle.flex_io.specs.Fault.{Rose};
 ghost use Rattle.flex_io.specs.Source.{ConsumesAtMost, EndsAtZero};
@@ -27,7 +27,8 @@ const FIRST_ROOM: usize = 16384;
 /// first. Memory is taken as the bytes come.
 pub fn take_all<S: Source>(alloc: Global, s: &mut S, limit: usize) -> Result<Vec<u8>, TakeFault>
     ensures taken { IfOk result (λ bytes. Consumes (S.left s.old) (S.left s.new) bytes.items) }
-    ensures whole { IfOk result (λ bytes. IfSome (S.left s.old) (λ left. bytes.items ≡ take (limit + 1) left)) }
+    ensures whole { IfOk result (λ bytes.
+        IfSome (S.left s.old) (λ left. bytes.items ≡ take (limit + 1) left)) }
     ensures bound { IfOk result (λ bytes. vec_len bytes ≤ limit + 1) }
 
     // Bytes that came before a fault are taken and lost.
@@ -75,7 +76,8 @@ fn read_at<S: Source>(s: &mut S, buf: &mut [u8], at: usize) -> Result<usize, Fai
     requires { at < length buf.old }
     ensures front { take at buf.new ≡ take at buf.old }
     ensures fits { IfOk result (λ n. at + n ≤ length buf.new) }
-    ensures taken { IfOk result (λ n. Consumes (S.left s.old) (S.left s.new) (take n (drop at buf.new))) }
+    ensures taken { IfOk result (λ n.
+        Consumes (S.left s.old) (S.left s.new) (take n (drop at buf.new))) }
     ensures end { IfOk result (EndsAtZero (S.left s.old)) }
     ensures failed { OnErr result (Rose (S.faults s.old) (S.faults s.new)) }
     ensures kept { OnErr result (Keeps (S.left s.old) (S.left s.new)) }
@@ -97,6 +99,9 @@ pub fn put_all<K: Sink>(k: &mut K, bytes: &[u8]) -> Result<(), Failed>
     ensures fits { HasRoom (K.room k.old) (length bytes.now) → IsOk result }
     ensures steady { HasRoom (K.room k.old) (length bytes.now) → K.faults k.new ≡ K.faults k.old }
     ensures room_left { OnOk result (K.room k.new ≡ room_after (K.room k.old) (length bytes.now)) }
+
+    // Without a byte to write, the sink stays as it is.
+    ensures nothing { bytes.now ≡ [] → k.new ≡ k.old }
 {
     let mut rest = bytes;
     while !rest.is_empty() {

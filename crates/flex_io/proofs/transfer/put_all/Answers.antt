@@ -39,4 +39,5 @@ loop-rest-preserved g c =
       written = (more.0, more.1, more.2 ∙ ap (λ xs. more.0 ++ xs) (sym (take_rest rest n)), more.3);
       counted = omega (arith, write.counted);
       steady = λ fits. write.steady (HasRoom-rest _ _ _ before.written.0 rest before.written.2 before.written.3 fits) ∙ before.steady fits;
+      untouched = λ none. absurd (omega (arith, write.some, write.bound, ap length (sym before.written.2 ∙ none), length-append before.written.0 rest));
     }
