@@ -3,4 +3,5 @@ pub mod OneStraight
 pub mod Pi
 pub mod Reading
 pub mod Refusal
+pub mod Run
 pub mod Straight
