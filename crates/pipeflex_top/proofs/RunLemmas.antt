@@ -7,6 +7,7 @@ use Rattle.flex_io.specs.declared.outcome.Status.TheVariants.{Done, Uncertified,
 use Rattle.pipeflex_top.specs.declared.one_straight.OneStraight.{OneStraight}
 use Rattle.pipeflex_top.specs.declared.one_straight.Refusal.{Refusal}
 use Rattle.pipeflex_top.specs.declared.one_straight.Refusal.TheVariants.{TooLong, Header, Unbuilt}
+use Rattle.pipeflex_top.specs.Enclosure.{PrintsEnclosures}
 use Rattle.pipeflex_top.specs.OneStraight.{IsTextOf}
 use Rattle.pipeflex_top.specs.Refusal.{IsWithinLimit, HasHeader, IsRefused}
 use Rattle.pipeflex_top.proofs.LengthLemmas.{written_short}
@@ -64,3 +65,11 @@ Decides-answer words (Some text) after output message NoMemory answers members s
   accepted = λ m form. inr refl;
   refused = λ r refused. inr refl;
 }
+
+-- where the table was written, it is that of each straight whose text this is
+pub enclosed-answer : (words : List (String Global)) (left after : Option (List ℕ)) (output message : List ℕ) (status : Status)
+    → Answers words left after output message status → status ≡ Done → IfSome left (λ text. (m : OneStraight) → IsTextOf text m → PrintsEnclosures m)
+enclosed-answer words None after output message status answers done = tt
+enclosed-answer words (Some text) after output message status answers done =
+    let table = subst (Answers words (Some text) after output message) done answers in
+    λ m form. subst PrintsEnclosures (sym (table.1.only m form)) table.1.enclosures

@@ -1,3 +1,4 @@
+pub mod Enclosure
 pub mod MemberTable
 pub mod OneStraight
 pub mod Pi

@@ -9,6 +9,7 @@ use Rattle.pipeflex_top.specs.declared.one_straight.OneStraight.{OneStraight}
 use Rattle.pipeflex_top.specs.declared.one_straight.Refusal.{Refusal}
 use Rattle.pipeflex_top.specs.OneStraight.{IsTextOf}
 use Rattle.pipeflex_top.specs.Refusal.{IsRefused, refusal_number, refusal_word}
+use Rattle.pipeflex_top.specs.Enclosure.{PrintsEnclosures}
 use Rattle.pipeflex_top.specs.MemberTable.{table_of}
 
 -- the words ask for the member table
@@ -39,6 +40,7 @@ pub record AnswersTable (left after : Option (List ℕ)) (output message : List 
   pub text : IfSome left (λ text. IsTextOf text model)
   pub only : IfSome left (λ text. (other : OneStraight) → IsTextOf text other → other ≡ model)
   pub table : output ≡ table_of model
+  pub enclosures : PrintsEnclosures model
   pub silent : message ≡ []
 
 -- the answer is the line that refuses the text that was read

@@ -3,6 +3,9 @@ ghost use Rattle.std.specs.Prelude.{◌≡◌, ◌≢◌, ◌⊎◌, ◌≤◌, 
 ghost use Rattle.flex_io.specs.Fault.{Rose};
 ghost use Rattle.flex_io.specs.Sink.{HasRoom, WritesAll, WritesPart};
 ghost use Rattle.flex_io.specs.declared.Status.{Status};
+ghost use Rattle.pipeflex_top.specs.declared.one_straight.OneStraight.{OneStraight};
+ghost use Rattle.pipeflex_top.specs.Enclosure.{PrintsEnclosures};
+ghost use Rattle.pipeflex_top.specs.OneStraight.{IsTextOf};
 ghost use Rattle.pipeflex_top.specs.Run.{Answers, Decides, IsMembers};
 
 use crate::reply::{Reply, reply_to};
@@ -36,6 +39,10 @@ pub fn run<R: Threads + Sync, S: Source, K: Sink, E: Sink, G: Gate>(
         × WritesPart K.held out.old out.new output
         × WritesPart E.held err.old err.new message
         × ¬ (HasRoom (K.room out.old) (length output) × HasRoom (E.room err.old) (length message)) }
+
+    // Each exact stiffness of the straight lies in the pair that is printed for its member.
+    ensures enclosed { result ≡ Status.Done → IfSome (S.left source.old) (λ text.
+        (m : OneStraight) → IsTextOf text m → PrintsEnclosures m) }
 
     // Wrong words leave the source unread.
     ensures unread { ¬ IsMembers words.now → source.new ≡ source.old }

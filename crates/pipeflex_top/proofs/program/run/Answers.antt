@@ -1,8 +1,9 @@
 use Rattle.std.proofs.Common.{◌≡◌, ◌≢◌, sym, subst, ap, ◌∙◌, List, ℕ, map, string_bytes, inl, inr}
 use Rattle.flex_io.specs.Fault.{Rose}
-use Rattle.flex_io.specs.declared.outcome.Status.TheVariants.{ReadFault, WriteFault}
+use Rattle.flex_io.specs.declared.outcome.Status.{Status}
+use Rattle.flex_io.specs.declared.outcome.Status.TheVariants.{Done, ReadFault, WriteFault}
 use Rattle.pipeflex_top.specs.Run.{Answers}
-use Rattle.pipeflex_top.proofs.RunLemmas.{Decides-answer}
+use Rattle.pipeflex_top.proofs.RunLemmas.{Decides-answer, enclosed-answer}
 use Rattle.pipeflex_top.proofs.program.run.Goals as goal
 
 pub returns-clause-ended : goal.returns-clause-ended
@@ -17,3 +18,10 @@ returns-clause-decided g c = λ members source out err.
     let same = c.deliver.ensures.status whole in
     let sound : c.deliver.result ≢ ReadFault = λ read. source (reply.ensures.read_fault (sym same ∙ read)) in
     Decides-answer _ _ _ _ _ _ (subst (Answers _ _ _ _ _) (sym same) reply.ensures.answers) members sound
+
+pub returns-clause-enclosed : goal.returns-clause-enclosed
+returns-clause-enclosed g c = λ done.
+    let reply = c.reply_to-reply in
+    let apart : ¬ (◌≡◌ {A = Status} Done WriteFault) = λ same. cc same in
+    let whole : c.deliver.result ≢ WriteFault = λ broke. apart (sym done ∙ broke) in
+    enclosed-answer _ _ _ _ _ _ reply.ensures.answers (sym (c.deliver.ensures.status whole) ∙ done)

@@ -17,6 +17,7 @@ returns-in-Ok-member_table-clause-answers g c =
         text = text;
         only = one_form table.0 _ text;
         table = table.2;
+        enclosures = c.in-Ok-member_table.ensures.encloses table.0 table.1;
         silent = refl;
       },
     )
