@@ -2,3 +2,4 @@ mod FieldLemmas
 mod LengthLemmas
 mod LineLemmas
 mod ModelLemmas
+mod RunLemmas

@@ -58,13 +58,13 @@ model_from_text text rest m split is = record {
   lines = append_cancel_left header rest (record_lines m) (sym split ∙ is.written);
 }
 
-one_model : (text : List ℕ) (m n : OneStraight) → IsTextOf text m → IsTextOf text n → m ≡ n
+pub one_model : (text : List ℕ) (m n : OneStraight) → IsTextOf text m → IsTextOf text n → m ≡ n
 one_model text m n is also =
     let first = values_again m is.valid.ranges in
     let second = values_from_model (record_lines m) n (model_from_text text (record_lines m) n is.written also) in
     ap (λ (x : OneStraight × List ℕ). x.0) (some_is _ _ (sym first ∙ second))
 
-not_refused : (text : List ℕ) (m : OneStraight) (refusal : Refusal) → IsTextOf text m → IsRefused refusal text → ⊥
+pub not_refused : (text : List ℕ) (m : OneStraight) (refusal : Refusal) → IsTextOf text m → IsRefused refusal text → ⊥
 not_refused text m TooLong is long = long (subst (λ t. length t ≤ 4194304) (sym is.written) (written_short m is.valid.ranges))
 not_refused text m Header is none = none.1 (record_lines m, is.written)
 not_refused text m Unbuilt is none = none.2 m is

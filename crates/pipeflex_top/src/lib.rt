@@ -4,6 +4,10 @@
 pub mod member_table;
 pub mod one_straight;
 mod pi;
+mod program;
 mod reading;
+mod reply;
 mod stiffness;
 pub mod straight;
+
+pub use program::run;

@@ -5,6 +5,7 @@ ghost use Rattle.std.specs.List.{flat_map};
 ghost use Rattle.pipeflex_top.specs.declared.member_table.TableFault.TheVariants.{NoMemory};
 ghost use Rattle.pipeflex_top.specs.declared.one_straight.OneStraight.{OneStraight};
 ghost use Rattle.pipeflex_top.specs.declared.one_straight.Refusal.{Refusal};
+ghost use Rattle.pipeflex_top.specs.Enclosure.{PrintsEnclosures};
 ghost use Rattle.pipeflex_top.specs.MemberTable.{kappa_words, kappa_lines, members_of, element_lines, stiffness_of, table_of};
 ghost use Rattle.pipeflex_top.specs.OneStraight.{IsTextOf, IsValid};
 ghost use Rattle.text_words.specs.Fields.{line};
@@ -72,7 +73,8 @@ fn push_element(
 
 fn stiffness(model: &OneStraight) -> Result<Kappas, Wide>
     requires { IsValid model.now }
-    ensures { result ≡ stiffness_of model.now }
+    ensures value { result ≡ stiffness_of model.now }
+    ensures encloses { PrintsEnclosures model.now }
 {
     let (material, section) = (&model.material, &model.section);
     kappas(material.e, material.nu, section.d, section.t, model.span())
@@ -80,7 +82,8 @@ fn stiffness(model: &OneStraight) -> Result<Kappas, Wide>
 
 fn table(alloc: Global, model: &OneStraight) -> Result<Vec<u8>, AllocError>
     requires { IsValid model.now }
-    ensures { IfOk result (λ bytes. bytes.items ≡ table_of model.now) }
+    ensures bytes { IfOk result (λ bytes. bytes.items ≡ table_of model.now) }
+    ensures encloses { OnOk result (PrintsEnclosures model.now) }
 {
     let mut out = Vec::new(alloc);
     push_line(&mut out, &[b"pipeflex", b"members", b"1"])?;
@@ -94,6 +97,7 @@ fn table(alloc: Global, model: &OneStraight) -> Result<Vec<u8>, AllocError>
 pub fn member_table(alloc: Global, text: &[u8]) -> Result<Vec<u8>, TableFault>
     // What is answered is the table of the text's model, or why the text is refused.
     ensures table { IfOk result (λ bytes. (m : OneStraight) × IsTextOf text.now m × (bytes.items ≡ table_of m)) }
+    ensures encloses { OnOk result ((m : OneStraight) → IsTextOf text.now m → PrintsEnclosures m) }
     ensures fault { (refusal : Refusal) → result ≡ Err (TableFault.Refused refusal) → IsRefused refusal text.now }
 
     // A text of a model gets its table, unless memory runs out. Another is refused.
