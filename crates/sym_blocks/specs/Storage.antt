@@ -1,0 +1,73 @@
+-- How a matrix by blocks is stored: beside each node's list of nodes a list of as many blocks.
+use Rattle.std.specs.Prelude.{Vec, ◌≡◌, ℕ, ◌*◌, ◌/◌, ◌%◌, ◌<◌, ◌==◌, ◌+◌, List, [], ◌∷◌, length, map, replicate, slice_index_or, Contains, if◌then◌else◌, ◌↔◌, ◌⊎◌, ℤ, pos, ◌+ℤ◌}
+use Rattle.std.specs.List.{range_with_len}
+use Rattle.std.specs.declared.alloc.Global.{Global}
+use Rattle.sym_blocks.specs.Rising.{IsRising}
+use Rattle.sym_blocks.specs.Matrix.{Matrix}
+
+-- a block: six rows of six entries
+abbrev pub Block : Type 0
+Block = List (List ℤ)
+
+-- the lists that vectors hold
+abbrev pub contents : {X : Type 0} → List (Vec X Global) → List (List X)
+contents vs = map (λ v. v.items) vs
+
+-- the list of a node
+abbrev pub list_of : {X : Type 0} → List (List X) → ℕ → List X
+list_of lists n = slice_index_or lists n []
+
+-- the list of each node, where each node is listed with itself alone
+abbrev pub own_lists_of : ℕ → List (List ℕ)
+own_lists_of nodes = map (λ n. n ∷ []) (range_with_len 0 nodes)
+
+-- the nodes of each pair are put into each other's lists, which stay in order
+pub record LinksLists (old new : List (List ℕ)) (pairs : List (ℕ × ℕ)) : Type 0 where
+  pub nodes : length new ≡ length old
+  pub rising : (n : ℕ) → IsRising (list_of new n)
+  pub members : (n k : ℕ) → Contains (list_of new n) k ↔ (Contains (list_of old n) k ⊎ (Contains pairs (n, k) ⊎ Contains pairs (k, n)))
+
+-- a block of zeros beside each node of each list
+abbrev pub zero_blocks_of : List (List ℕ) → List (List Block)
+zero_blocks_of lists = map (λ list. replicate (length list) (replicate 6 (replicate 6 (pos 0)))) lists
+
+-- the block that stands beside node k; none where k is not listed
+abbrev pub block_beside : ℕ → List ℕ → List Block → Block
+block_beside k [] blocks = []
+block_beside k (n ∷ nodes) [] = []
+block_beside k (n ∷ nodes) (b ∷ blocks) = if n == k then b else block_beside k nodes blocks
+
+-- an entry of a block
+abbrev pub at_place : Block → ℕ → ℕ → ℤ
+at_place block r c = slice_index_or (slice_index_or block r []) c (pos 0)
+
+-- the entry stored for row i and column j
+abbrev pub stored : List (List ℕ) → List (List Block) → ℕ → ℕ → ℤ
+stored lists blocks i j = at_place (block_beside (j / 6) (list_of lists (i / 6)) (list_of blocks (i / 6))) (i % 6) (j % 6)
+
+-- the whole matrix that is stored
+abbrev pub matrix_of : List (List ℕ) → List (List Block) → Matrix
+matrix_of lists blocks =
+    record {
+      pattern = lists;
+      rows = map (λ i. map (stored lists blocks i) (range_with_len 0 (6 * length lists))) (range_with_len 0 (6 * length lists));
+    }
+
+-- each node's list is in order, has the node, and names no node that does not name it; beside each node stands a block
+pub record IsLayout (lists : List (List ℕ)) (blocks : List (List Block)) : Type 0 where
+  pub nodes : length blocks ≡ length lists
+  pub aligned : (n : ℕ) → length (list_of blocks n) ≡ length (list_of lists n)
+  pub rising : (n : ℕ) → IsRising (list_of lists n)
+  pub in_range : (n k : ℕ) → Contains (list_of lists n) k → k < length lists
+  pub own : (n : ℕ) → n < length lists → Contains (list_of lists n) n
+  pub converse : (n k : ℕ) → Contains (list_of lists n) k → Contains (list_of lists k) n
+
+-- the entries stored are symmetric
+pub record IsStorage (lists : List (List ℕ)) (blocks : List (List Block)) : Type 0 where
+  pub layout : IsLayout lists blocks
+  pub symmetric : (i j : ℕ) → stored lists blocks i j ≡ stored lists blocks j i
+
+-- v is added to one stored entry, and every other stays
+pub record AddsToStored (lists : List (List ℕ)) (old new : List (List Block)) (row col : ℕ) (v : ℤ) : Type 0 where
+  pub place : stored lists new row col ≡ stored lists old row col +ℤ v
+  pub others : (i j : ℕ) → ((i ≡ row) × (j ≡ col) → ⊥) → stored lists new i j ≡ stored lists old i j

@@ -1,0 +1,8 @@
+//! Symmetric matrices of whole numbers by 6 by 6 blocks, one block for two nodes that are joined.
+#![tactic(auto)]
+
+mod blocks;
+mod rising;
+
+pub use blocks::{NoMemory, SymBlocks};
+pub use rising::insert_rising;

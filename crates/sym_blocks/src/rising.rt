@@ -1,0 +1,16 @@
+ghost use Rattle.std.specs.Prelude.{◌≡◌, ◌⊎◌, ◌↔◌, ℕ, Contains, OnOk};
+ghost use Rattle.sym_blocks.specs.Rising.{IsRising};
+
+use std::alloc::AllocError;
+
+/// Puts a number into a rising list, where it is not there already.
+pub fn insert_rising(list: &mut Vec<u32>, number: u32) -> Result<(), AllocError>
+    requires { IsRising list.old.items }
+    ensures rising { OnOk result (IsRising list.new.items) }
+    ensures members { OnOk result ((x : ℕ) → Contains list.new.items x ↔ (Contains list.old.items x ⊎ (x ≡ number))) }
+{
+    if let Err(place) = list.binary_search(&number) {
+        list.insert(place, number)?;
+    }
+    Ok(())
+}
