@@ -1,1 +1,4 @@
 pub mod RisingLemmas
+pub mod BlockLemmas
+pub mod StorageLemmas
+pub mod AddLemmas

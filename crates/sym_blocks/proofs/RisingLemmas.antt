@@ -1,6 +1,10 @@
 -- Rising lists.
-use Rattle.std.proofs.Common.{◌≡◌, ℕ, ◌+◌, ◌-◌, ◌<◌, ◌≤◌, List, length, get_or, Contains, ◌⊎◌, inl, inr, ◌↔◌, ◌∙◌, arith, subst}
+use Rattle.std.proofs.Common.{◌≡◌, ℕ, ◌+◌, ◌-◌, ◌<◌, ◌≤◌, List, length, get_or, Contains, ◌⊎◌, inl, inr, ◌↔◌, ◌∙◌, arith, subst, Result, Ok, Err, MatchOption}
 use Rattle.std.specs.List.{insert}
+use Rattle.std.specs.List.Sorted.{IsBinarySearchResult}
+use Rattle.std.specs.Ordering.{nat_cmp}
+use Rattle.std.specs.Result.{result_ok}
+use Rattle.std.proofs.lemmas.List.Sorted.{searched}
 use Rattle.std.proofs.lemmas.List.{get_or_default}
 use Rattle.std.proofs.lemmas.List.Edits.{length-insert, get_or-insert_below, get_or-insert_at, get_or-insert_above}
 use Rattle.std.proofs.lemmas.Bool.{cases_lt, cases_eq}
@@ -83,3 +87,12 @@ Contains-insert xs p y x w =
 pub IsRising-le : (xs : List ℕ) → IsRising xs → (i j : ℕ) → i ≤ j → j < length xs → get_or xs i 0 ≤ get_or xs j 0
 IsRising-le xs up i j le lt =
     elim (cases_eq i j) [ inl e ↦ (let P : ℕ → Type 0 = λ n. get_or xs i 0 ≤ get_or xs n 0 in subst P e (omega arith)) | inr ne ↦ omega (arith, up i j 0 (omega arith) lt) ]
+
+-- what a search in a rising list says
+pub place_found : (xs : List ℕ) (x : ℕ) (r : Result ℕ ℕ) → IsRising xs → IsBinarySearchResult (λ y. nat_cmp y x) xs r → MatchOption (result_ok r) (Contains xs x → ⊥) (λ p. (p < length xs) × (get_or xs p 0 ≡ x))
+place_found xs x (Ok p) up h = searched xs x (Ok p) h (IsRising-le xs up)
+place_found xs x (Err p) up h =
+    let place = searched xs x (Err p) h (IsRising-le xs up) in
+    λ (k, in', is).
+      let at : get_or xs k 0 ≡ x = get_or_default xs k 0 x in' ∙ is in
+      elim (cases_lt k p) [ inl lt ↦ omega (arith, place.1 k lt) | inr ge ↦ omega (arith, place.2 k ge in') ]

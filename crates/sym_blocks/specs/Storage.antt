@@ -1,6 +1,7 @@
 -- How a matrix by blocks is stored: beside each node's list of nodes a list of as many blocks.
-use Rattle.std.specs.Prelude.{Vec, ◌≡◌, ℕ, ◌*◌, ◌/◌, ◌%◌, ◌<◌, ◌==◌, ◌+◌, List, [], ◌∷◌, length, map, replicate, slice_index_or, Contains, if◌then◌else◌, ◌↔◌, ◌⊎◌, ℤ, pos, ◌+ℤ◌}
+use Rattle.std.specs.Prelude.{Vec, ◌≡◌, ℕ, ◌*◌, ◌/◌, ◌%◌, ◌^◌, ◌<◌, ◌==◌, ◌+◌, List, [], ◌∷◌, length, map, replicate, slice_index_or, Contains, if◌then◌else◌, ◌↔◌, ◌⊎◌, ℤ, pos, ◌+ℤ◌}
 use Rattle.std.specs.List.{range_with_len}
+use Rattle.std.specs.Int.RustNames.{unsigned_abs}
 use Rattle.std.specs.declared.alloc.Global.{Global}
 use Rattle.sym_blocks.specs.Rising.{IsRising}
 use Rattle.sym_blocks.specs.Matrix.{Matrix}
@@ -53,14 +54,22 @@ matrix_of lists blocks =
       rows = map (λ i. map (stored lists blocks i) (range_with_len 0 (6 * length lists))) (range_with_len 0 (6 * length lists));
     }
 
--- each node's list is in order, has the node, and names no node that does not name it; beside each node stands a block
+-- six rows of six entries
+pub record IsWhole (block : Block) : Type 0 where
+  pub rows : length block ≡ 6
+  pub entries : (r : ℕ) → r < 6 → length (slice_index_or block r []) ≡ 6
+
+-- each node's list is in order, has the node, and names no node that does not name it; beside each node stands a whole
+-- block, with entries below 2^126 in size
 pub record IsLayout (lists : List (List ℕ)) (blocks : List (List Block)) : Type 0 where
   pub nodes : length blocks ≡ length lists
   pub aligned : (n : ℕ) → length (list_of blocks n) ≡ length (list_of lists n)
+  pub whole : (n p : ℕ) → p < length (list_of blocks n) → IsWhole (slice_index_or (list_of blocks n) p [])
   pub rising : (n : ℕ) → IsRising (list_of lists n)
   pub in_range : (n k : ℕ) → Contains (list_of lists n) k → k < length lists
   pub own : (n : ℕ) → n < length lists → Contains (list_of lists n) n
   pub converse : (n k : ℕ) → Contains (list_of lists n) k → Contains (list_of lists k) n
+  pub small : (i j : ℕ) → unsigned_abs (stored lists blocks i j) < 2 ^ 126
 
 -- the entries stored are symmetric
 pub record IsStorage (lists : List (List ℕ)) (blocks : List (List Block)) : Type 0 where
@@ -71,3 +80,9 @@ pub record IsStorage (lists : List (List ℕ)) (blocks : List (List Block)) : Ty
 pub record AddsToStored (lists : List (List ℕ)) (old new : List (List Block)) (row col : ℕ) (v : ℤ) : Type 0 where
   pub place : stored lists new row col ≡ stored lists old row col +ℤ v
   pub others : (i j : ℕ) → ((i ≡ row) × (j ≡ col) → ⊥) → stored lists new i j ≡ stored lists old i j
+
+-- v is added to a stored entry and to its mirror, and every other stays
+pub record AddsBoth (lists : List (List ℕ)) (old new : List (List Block)) (row col : ℕ) (v : ℤ) : Type 0 where
+  pub place : stored lists new row col ≡ stored lists old row col +ℤ v
+  pub mirror : stored lists new col row ≡ stored lists old col row +ℤ v
+  pub others : (i j : ℕ) → ((i ≡ row) × (j ≡ col) → ⊥) → ((i ≡ col) × (j ≡ row) → ⊥) → stored lists new i j ≡ stored lists old i j

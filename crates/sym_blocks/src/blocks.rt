@@ -1,12 +1,12 @@
 ghost use Rattle.std.specs.Prelude.{◌≡◌, ◌∷◌, ◌↔◌, OnOk, ℕ, ◌+◌, ◌*◌, ◌/◌, ◌^◌, ◌<◌, IfOk, Contains, All, ℤ, pos, ◌+ℤ◌, length, slice_index_or, []};
 ghost use Rattle.sym_blocks.specs.Rising.{IsRising};
-ghost use Rattle.sym_blocks.specs.Storage.{contents, list_of, own_lists_of, zero_blocks_of, stored, LinksLists, IsLayout, AddsToStored};
+ghost use Rattle.sym_blocks.specs.Storage.{contents, list_of, own_lists_of, zero_blocks_of, stored, LinksLists, IsLayout, IsStorage, AddsToStored, AddsBoth};
 ghost use Rattle.std.specs.Int.RustNames.{unsigned_abs};
 
 use std::alloc::{AllocError, Global};
 use std::marker::Model;
 
-use crate::rising::insert_rising;
+use crate::rising::{find_rising, insert_rising};
 
 /// Memory ran out.
 pub type NoMemory = AllocError;
@@ -53,9 +53,9 @@ impl SymBlocks {
     pub fn get(&self, row: u32, col: u32) -> i128
         ensures value { result ≡ entry self.now row col }
     {
-        match self.pattern(row / 6).binary_search(&(col / 6)) {
-            Ok(place) => self.blocks[(row / 6) as usize][place][(row % 6) as usize][(col % 6) as usize],
-            Err(_) => 0,
+        match find_rising(self.pattern(row / 6), col / 6) {
+            Some(place) => self.blocks[(row / 6) as usize][place][(row % 6) as usize][(col % 6) as usize],
+            None => 0,
         }
     }
 
@@ -65,10 +65,7 @@ impl SymBlocks {
         requires small { unsigned_abs (entry self.old row col +ℤ v) < 2 ^ 126 }
         ensures { AddsAt self.old self.new row col v }
     {
-        add_at(&self.neighbours, &mut self.blocks, row, col, v);
-        if row != col {
-            add_at(&self.neighbours, &mut self.blocks, col, row, v);
-        }
+        add_both(&self.neighbours, &mut self.blocks, row, col, v);
     }
 
     /// The nodes whose block with this node is in the pattern, rising.
@@ -127,6 +124,20 @@ fn zero_blocks(alloc: Global, lists: &[Vec<u32>]) -> Result<Vec<Vec<Block>>, All
     Ok(blocks)
 }
 
+// Adds to a stored entry and to its mirror.
+fn add_both(lists: &[Vec<u32>], blocks: &mut [Vec<Block>], row: u32, col: u32, v: i128)
+    requires storage { IsStorage (contents lists.now) (contents blocks.old) }
+    requires listed { Contains (list_of (contents lists.now) (row / 6)) (col / 6) }
+    requires small { unsigned_abs (stored (contents lists.now) (contents blocks.old) row col +ℤ v) < 2 ^ 126 }
+    ensures storage { IsStorage (contents lists.now) (contents blocks.new) }
+    ensures added { AddsBoth (contents lists.now) (contents blocks.old) (contents blocks.new) row col v }
+{
+    add_at(lists, blocks, row, col, v);
+    if row != col {
+        add_at(lists, blocks, col, row, v);
+    }
+}
+
 // Adds to one stored entry.
 fn add_at(lists: &[Vec<u32>], blocks: &mut [Vec<Block>], row: u32, col: u32, v: i128)
     requires layout { IsLayout (contents lists.now) (contents blocks.old) }
@@ -135,7 +146,7 @@ fn add_at(lists: &[Vec<u32>], blocks: &mut [Vec<Block>], row: u32, col: u32, v: 
     ensures layout { IsLayout (contents lists.now) (contents blocks.new) }
     ensures added { AddsToStored (contents lists.now) (contents blocks.old) (contents blocks.new) row col v }
 {
-    if let Ok(place) = lists[(row / 6) as usize].binary_search(&(col / 6)) {
+    if let Some(place) = find_rising(&lists[(row / 6) as usize], col / 6) {
         blocks[(row / 6) as usize][place][(row % 6) as usize][(col % 6) as usize] += v;
     }
 }

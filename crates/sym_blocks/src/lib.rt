@@ -5,4 +5,4 @@ mod blocks;
 mod rising;
 
 pub use blocks::{NoMemory, SymBlocks};
-pub use rising::insert_rising;
+pub use rising::{find_rising, insert_rising};

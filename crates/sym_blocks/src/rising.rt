@@ -1,4 +1,4 @@
-ghost use Rattle.std.specs.Prelude.{◌≡◌, ◌⊎◌, ◌↔◌, ℕ, Contains, OnOk};
+ghost use Rattle.std.specs.Prelude.{◌≡◌, ◌<◌, ◌⊎◌, ◌↔◌, ℕ, length, slice_index, Contains, OnOk, MatchOption};
 ghost use Rattle.sym_blocks.specs.Rising.{IsRising};
 
 use std::alloc::AllocError;
@@ -13,4 +13,14 @@ pub fn insert_rising(list: &mut Vec<u32>, number: u32) -> Result<(), AllocError>
         list.insert(place, number)?;
     }
     Ok(())
+}
+
+/// The place of a number in a rising list.
+pub fn find_rising(list: &[u32], number: u32) -> Option<usize>
+    requires { IsRising list.now }
+    ensures { MatchOption result
+        (Contains list.now number → ⊥)
+        (λ place. (place < length list.now) × (slice_index list.now place ≡ number)) }
+{
+    list.binary_search(&number).ok()
 }

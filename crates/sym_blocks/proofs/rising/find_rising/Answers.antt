@@ -1,0 +1,6 @@
+use Rattle.std.proofs.Common.{rules}
+use Rattle.sym_blocks.proofs.RisingLemmas.{place_found}
+use Rattle.sym_blocks.proofs.rising.find_rising.Goals as goal
+
+pub returns : goal.returns
+returns c = rw c.ok.ensures.value (place_found c.args.list.now c.args.number _ c.requires c.binary_search.ensures.position)
