@@ -42,10 +42,10 @@ at_place-set_same b r c w rl cl =
 pub at_place-set_other : (b : Block) (r c i j : ℕ) (w : ℤ) → r < length b → ((i ≡ r) × (j ≡ c) → ⊥) → at_place (set b r (set (get_or b r []) c w)) i j ≡ at_place b i j
 at_place-set_other b r c i j w rl ne =
     elim (cases_eq i r) [
-      inl e ↦
-        ap (λ (n : ℕ). get_or (get_or (set b r (set (get_or b r []) c w)) n []) j (pos 0)) e
-        ∙ ap (λ (row : List ℤ). get_or row j (pos 0)) (get_or-set_same b r (set (get_or b r []) c w) [] rl)
-        ∙ get_or-set_other (get_or b r []) c j w (pos 0) (λ q. ne (e, q))
-        ∙ ap (λ (n : ℕ). get_or (get_or b n []) j (pos 0)) (sym e)
-    | inr apart ↦ ap (λ (row : List ℤ). get_or row j (pos 0)) (get_or-set_other b r i (set (get_or b r []) c w) [] apart)
+      | inl e ↦
+          ap (λ (n : ℕ). get_or (get_or (set b r (set (get_or b r []) c w)) n []) j (pos 0)) e
+          ∙ ap (λ (row : List ℤ). get_or row j (pos 0)) (get_or-set_same b r (set (get_or b r []) c w) [] rl)
+          ∙ get_or-set_other (get_or b r []) c j w (pos 0) (λ q. ne (e, q))
+          ∙ ap (λ (n : ℕ). get_or (get_or b n []) j (pos 0)) (sym e)
+      | inr apart ↦ ap (λ (row : List ℤ). get_or row j (pos 0)) (get_or-set_other b r i (set (get_or b r []) c w) [] apart)
     ]

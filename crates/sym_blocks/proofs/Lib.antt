@@ -2,3 +2,5 @@ pub mod RisingLemmas
 pub mod BlockLemmas
 pub mod StorageLemmas
 pub mod AddLemmas
+pub mod LinkLemmas
+pub mod NewLemmas

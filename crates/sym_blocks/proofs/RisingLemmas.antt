@@ -25,8 +25,8 @@ data Spot (p k : ℕ) : Type 0 where
 spot : (p k : ℕ) → Spot p k
 spot p k =
     elim (cases_lt k p) [
-      inl lt ↦ before lt
-    | inr ge ↦ elim (cases_eq k p) [ inl e ↦ at e | inr ne ↦ after (k - 1) (omega arith) (omega arith) ]
+      | inl lt ↦ before lt
+      | inr ge ↦ elim (cases_eq k p) [ inl e ↦ at e | inr ne ↦ after (k - 1) (omega arith) (omega arith) ]
     ]
 
 at_below : (xs : List ℕ) (p y k d : ℕ) → p ≤ length xs → k < p → get_or (insert xs p y) k d ≡ get_or xs k 0
@@ -47,41 +47,42 @@ IsRising-insert xs p y up place i j d lt in' =
     let len = length-insert xs p y place.within in
     let w = place.within in
     elim (spot p i) [
-      before il ↦ elim (spot p j) [
-        before jl ↦ omega (arith, at_below xs p y i d w il, at_below xs p y j d w jl, up i j 0 lt (omega arith))
-      | at je ↦ omega (arith, at_below xs p y i d w il, at_same xs p y j d w je, place.below i il)
-      | after j' pj je ↦ omega (arith, at_below xs p y i d w il, at_above xs p y j d j' w pj je (omega arith), up i j' 0 (omega arith) (omega arith))
+      | before il ↦ elim (spot p j) [
+        | before jl ↦ omega (arith, at_below xs p y i d w il, at_below xs p y j d w jl, up i j 0 lt (omega arith))
+        | at je ↦ omega (arith, at_below xs p y i d w il, at_same xs p y j d w je, place.below i il)
+        | after j' pj je ↦ omega (arith, at_below xs p y i d w il, at_above xs p y j d j' w pj je (omega arith), up i j' 0 (omega arith) (omega arith))
       ]
-    | at ie ↦ elim (spot p j) [
-        before jl ↦ absurd (omega arith)
-      | at je ↦ absurd (omega arith)
-      | after j' pj je ↦ omega (arith, at_same xs p y i d w ie, at_above xs p y j d j' w pj je (omega arith), place.above j' pj (omega arith))
+      | at ie ↦ elim (spot p j) [
+        | before jl ↦ absurd (omega arith)
+        | at je ↦ absurd (omega arith)
+        | after j' pj je ↦ omega (arith, at_same xs p y i d w ie, at_above xs p y j d j' w pj je (omega arith), place.above j' pj (omega arith))
       ]
-    | after i' pi ie ↦ elim (spot p j) [
-        before jl ↦ absurd (omega arith)
-      | at je ↦ absurd (omega arith)
-      | after j' pj je ↦ omega (arith, at_above xs p y i d i' w pi ie (omega arith), at_above xs p y j d j' w pj je (omega arith), up i' j' 0 (omega arith) (omega arith))
+      | after i' pi ie ↦ elim (spot p j) [
+        | before jl ↦ absurd (omega arith)
+        | at je ↦ absurd (omega arith)
+        | after j' pj je ↦ omega (arith, at_above xs p y i d i' w pi ie (omega arith), at_above xs p y j d j' w pj je (omega arith), up i' j' 0 (omega arith) (omega arith))
       ]
     ]
 
 pub Contains-insert : (xs : List ℕ) (p y x : ℕ) → p ≤ length xs → Contains (insert xs p y) x ↔ (Contains xs x ⊎ (x ≡ y))
 Contains-insert xs p y x w =
-    let len = length-insert xs p y w in
-    (λ (k, in', is).
-        elim (spot p k) [
-          before kl ↦ inl (k, omega arith, get_or_default xs k x 0 (omega arith) ∙ (omega (arith, is, at_below xs p y k x w kl)))
-        | at ke ↦ inr (omega (arith, is, at_same xs p y k x w ke))
-        | after i pi ke ↦ inl (i, omega arith, get_or_default xs i x 0 (omega arith) ∙ omega (arith, is, at_above xs p y k x i w pi ke (omega arith)))
-        ],
-     λ either.
-        elim either [
-          inl (k, in', is) ↦
-            elim (cases_lt k p) [
-              inl kl ↦ (k, omega arith, at_below xs p y k x w kl ∙ (omega (arith, is, get_or_default xs k x 0 in')))
-            | inr ge ↦ (k + 1, omega arith, at_above xs p y (k + 1) x k w ge (omega arith) in' ∙ omega (arith, is, get_or_default xs k x 0 in'))
-            ]
-        | inr e ↦ (p, omega arith, omega (arith, e, at_same xs p y p x w (omega arith)))
-        ])
+    let len = length-insert xs p y w in (
+      λ (k, in', is).
+          elim (spot p k) [
+            | before kl ↦ inl (k, omega arith, get_or_default xs k x 0 (omega arith) ∙ (omega (arith, is, at_below xs p y k x w kl)))
+            | at ke ↦ inr (omega (arith, is, at_same xs p y k x w ke))
+            | after i pi ke ↦ inl (i, omega arith, get_or_default xs i x 0 (omega arith) ∙ omega (arith, is, at_above xs p y k x i w pi ke (omega arith)))
+          ],
+      λ either.
+          elim either [
+            | inl (k, in', is) ↦
+                elim (cases_lt k p) [
+                  | inl kl ↦ (k, omega arith, at_below xs p y k x w kl ∙ (omega (arith, is, get_or_default xs k x 0 in')))
+                  | inr ge ↦ (k + 1, omega arith, at_above xs p y (k + 1) x k w ge (omega arith) in' ∙ omega (arith, is, get_or_default xs k x 0 in'))
+                ]
+            | inr e ↦ (p, omega arith, omega (arith, e, at_same xs p y p x w (omega arith)))
+          ],
+    )
 
 -- what a search in a rising list that does not find answers
 pub IsRising-le : (xs : List ℕ) → IsRising xs → (i j : ℕ) → i ≤ j → j < length xs → get_or xs i 0 ≤ get_or xs j 0
@@ -94,5 +95,5 @@ place_found xs x (Ok p) up h = searched xs x (Ok p) h (IsRising-le xs up)
 place_found xs x (Err p) up h =
     let place = searched xs x (Err p) h (IsRising-le xs up) in
     λ (k, in', is).
-      let at : get_or xs k 0 ≡ x = get_or_default xs k 0 x in' ∙ is in
-      elim (cases_lt k p) [ inl lt ↦ omega (arith, place.1 k lt) | inr ge ↦ omega (arith, place.2 k ge in') ]
+    let at : get_or xs k 0 ≡ x = get_or_default xs k 0 x in' ∙ is in
+    elim (cases_lt k p) [ inl lt ↦ omega (arith, place.1 k lt) | inr ge ↦ omega (arith, place.2 k ge in') ]

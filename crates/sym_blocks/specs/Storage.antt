@@ -22,15 +22,24 @@ list_of lists n = slice_index_or lists n []
 abbrev pub own_lists_of : ℕ → List (List ℕ)
 own_lists_of nodes = map (λ n. n ∷ []) (range_with_len 0 nodes)
 
+-- node k is put into the list of node n, and the lists stay in order
+pub record ListsNode (old new : List (List ℕ)) (n k : ℕ) : Type 0 where
+  pub nodes : length new ≡ length old
+  pub rising : (a : ℕ) → IsRising (list_of new a)
+  pub members : (a b : ℕ) → Contains (list_of new a) b ↔ (Contains (list_of old a) b ⊎ ((a ≡ n) × (b ≡ k)))
+
 -- the nodes of each pair are put into each other's lists, which stay in order
 pub record LinksLists (old new : List (List ℕ)) (pairs : List (ℕ × ℕ)) : Type 0 where
   pub nodes : length new ≡ length old
   pub rising : (n : ℕ) → IsRising (list_of new n)
   pub members : (n k : ℕ) → Contains (list_of new n) k ↔ (Contains (list_of old n) k ⊎ (Contains pairs (n, k) ⊎ Contains pairs (k, n)))
 
+abbrev pub zero_block : Block
+zero_block = replicate 6 (replicate 6 (pos 0))
+
 -- a block of zeros beside each node of each list
 abbrev pub zero_blocks_of : List (List ℕ) → List (List Block)
-zero_blocks_of lists = map (λ list. replicate (length list) (replicate 6 (replicate 6 (pos 0)))) lists
+zero_blocks_of lists = map (λ list. replicate (length list) zero_block) lists
 
 -- the block that stands beside node k; none where k is not listed
 abbrev pub block_beside : ℕ → List ℕ → List Block → Block

@@ -1,12 +1,11 @@
-ghost use Rattle.std.specs.Prelude.{◌≡◌, ◌∷◌, ◌↔◌, OnOk, ℕ, ◌+◌, ◌*◌, ◌/◌, ◌^◌, ◌<◌, IfOk, Contains, All, ℤ, pos, ◌+ℤ◌, length, slice_index_or, []};
+ghost use Rattle.std.specs.Prelude.{◌≡◌, ◌∷◌, ◌↔◌, OnOk, ℕ, ◌+◌, ◌*◌, ◌/◌, ◌^◌, ◌<◌, IfOk, Contains, All, ℤ, pos, ◌+ℤ◌, length, slice_index_or, [], replicate};
 ghost use Rattle.sym_blocks.specs.Rising.{IsRising};
-ghost use Rattle.sym_blocks.specs.Storage.{contents, list_of, own_lists_of, zero_blocks_of, stored, LinksLists, IsLayout, IsStorage, AddsToStored, AddsBoth};
+ghost use Rattle.sym_blocks.specs.Storage.{contents, list_of, own_lists_of, zero_block, zero_blocks_of, stored, ListsNode, LinksLists, IsLayout, IsStorage, AddsToStored, AddsBoth};
 ghost use Rattle.std.specs.Int.RustNames.{unsigned_abs};
 
+use crate::rising::{find_rising, insert_rising};
 use std::alloc::{AllocError, Global};
 use std::marker::Model;
-
-use crate::rising::{find_rising, insert_rising};
 
 /// Memory ran out.
 pub type NoMemory = AllocError;
@@ -54,7 +53,8 @@ impl SymBlocks {
         ensures value { result ≡ entry self.now row col }
     {
         match find_rising(self.pattern(row / 6), col / 6) {
-            Some(place) => self.blocks[(row / 6) as usize][place][(row % 6) as usize][(col % 6) as usize],
+            Some(place) => self.blocks[(row / 6) as usize][place][(row % 6) as usize][(col
+                % 6) as usize],
             None => 0,
         }
     }
@@ -103,14 +103,24 @@ fn link_pairs(lists: &mut [Vec<u32>], pairs: &[(u32, u32)]) -> Result<(), AllocE
     Ok(())
 }
 
+// Puts two nodes into each other's lists.
 fn link(lists: &mut [Vec<u32>], n: u32, k: u32) -> Result<(), AllocError>
     requires n_in_range { n < length lists.old }
     requires k_in_range { k < length lists.old }
-    requires rising { (n : ℕ) → IsRising (list_of (contents lists.old) n) }
+    requires rising { (a : ℕ) → IsRising (list_of (contents lists.old) a) }
     ensures { OnOk result (LinksLists (contents lists.old) (contents lists.new) ((n, k) ∷ [])) }
 {
-    insert_rising(&mut lists[n as usize], k)?;
-    insert_rising(&mut lists[k as usize], n)
+    list_node(lists, n, k)?;
+    list_node(lists, k, n)
+}
+
+// Puts a node into another's list.
+fn list_node(lists: &mut [Vec<u32>], n: u32, k: u32) -> Result<(), AllocError>
+    requires in_range { n < length lists.old }
+    requires rising { (a : ℕ) → IsRising (list_of (contents lists.old) a) }
+    ensures { OnOk result (ListsNode (contents lists.old) (contents lists.new) n k) }
+{
+    insert_rising(&mut lists[n as usize], k)
 }
 
 // A block of zeros beside each node of each list.
@@ -119,9 +129,19 @@ fn zero_blocks(alloc: Global, lists: &[Vec<u32>]) -> Result<Vec<Vec<Block>>, All
 {
     let mut blocks = Vec::with_capacity(alloc, lists.len())?;
     for list in lists {
-        blocks.push(vec![in alloc; [[0; 6]; 6]; list.len()]?)?;
+        blocks.push(zero_row(alloc, list.len())?)?;
     }
     Ok(blocks)
+}
+
+fn zero_row(alloc: Global, count: usize) -> Result<Vec<Block>, AllocError>
+    ensures { IfOk result (λ row. row.items ≡ replicate count zero_block) }
+{
+    let mut row = Vec::with_capacity(alloc, count)?;
+    for _place in 0..count {
+        row.push([[0; 6]; 6])?;
+    }
+    Ok(row)
 }
 
 // Adds to a stored entry and to its mirror.
@@ -148,5 +168,34 @@ fn add_at(lists: &[Vec<u32>], blocks: &mut [Vec<Block>], row: u32, col: u32, v: 
 {
     if let Some(place) = find_rising(&lists[(row / 6) as usize], col / 6) {
         blocks[(row / 6) as usize][place][(row % 6) as usize][(col % 6) as usize] += v;
+    }
+}
+
+#[cfg(test)]
+mod tests {
+    use super::*;
+    use std::test::Fail;
+
+    // Nodes 0 and 1, 1 and 2 are joined: block (0, 2) is outside the pattern.
+    #[test]
+    fn adds_on_both_sides_of_the_diagonal(rt: HostRuntime) -> Result<(), Fail> {
+        let mut matrix = SymBlocks::new(rt.alloc(), 3, &[(1, 0), (1, 2), (2, 1)])?;
+        assert_eq!(rt; matrix.pattern(0), [0, 1].as_slice());
+        assert_eq!(rt; matrix.pattern(1), [0, 1, 2].as_slice());
+        assert_eq!(rt; matrix.pattern(3), [].as_slice());
+        matrix.add(8, 5, -7);
+        matrix.add(5, 8, 2);
+        matrix.add(13, 13, 4);
+        for (row, col, want) in [
+            (5, 8, -5),
+            (8, 5, -5),
+            (13, 13, 4),
+            (5, 13, 0),
+            (8, 6, 0),
+            (18, 0, 0),
+        ] {
+            assert_eq!(rt; matrix.get(row, col), want, "at {row} {col}");
+        }
+        Ok(())
     }
 }
