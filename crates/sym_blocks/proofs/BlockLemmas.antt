@@ -1,5 +1,5 @@
 -- Blocks beside the nodes of a rising list, and their entries.
-use Rattle.std.proofs.Common.{◌≡◌, ℕ, zero, suc, ◌+◌, ◌<◌, cond, List, [], ◌∷◌, length, get_or, set, Contains, ◌⊎◌, inl, inr, ◌∙◌, sym, ap, refl, arith, subst, eqb, ℤ, pos}
+use Rattle.std.proofs.Common.{◌≡◌, ℕ, zero, suc, ◌<◌, cond, List, [], ◌∷◌, length, get_or, set, Contains, inl, inr, ◌∙◌, sym, ap, refl, arith, eqb, ℤ, pos}
 use Rattle.std.proofs.lemmas.Bool.{cases_eq, eq-eqb, ne_eqb}
 use Rattle.std.proofs.lemmas.List.{get_or-set_same, get_or-set_other}
 use Rattle.sym_blocks.specs.Rising.{IsRising}

@@ -1,13 +1,12 @@
 -- What is stored, read as a whole matrix, and a write to it.
-use Rattle.std.proofs.Common.{◌≡◌, ℕ, ◌+◌, ◌*◌, ◌/◌, ◌%◌, ◌^◌, ◌<◌, ◌≤◌, List, [], length, get_or, set, map, Contains, ◌⊎◌, inl, inr, ◌∙◌, sym, ap, refl, arith, subst, ℤ, pos, Vec, Global}
+use Rattle.std.proofs.Common.{◌≡◌, ℕ, ◌*◌, ◌/◌, ◌%◌, ◌^◌, ◌<◌, ◌≤◌, List, [], length, get_or, set, map, Contains, ◌⊎◌, inl, inr, ◌∙◌, sym, ap, arith, subst, ℤ, pos, Vec, Global}
 use Rattle.std.specs.List.{range_with_len}
 use Rattle.std.specs.Int.RustNames.{unsigned_abs}
 use Rattle.std.proofs.lemmas.Bool.{cases_lt, cases_eq}
-use Rattle.std.proofs.lemmas.List.{get_or-set_same, get_or-set_other, get_or_past, get_or_default, get_or-map, length-map, length-set, map-set}
+use Rattle.std.proofs.lemmas.List.{get_or-set_same, get_or-set_other, get_or_past, get_or_default, get_or-map, length-map, length-set}
 use Rattle.std.proofs.lemmas.List.FromFn.{get_or-map-range_with_len, length-map-range_with_len}
-use Rattle.sym_blocks.specs.Rising.{IsRising}
-use Rattle.sym_blocks.specs.Matrix.{Matrix, entry, pattern_of, HasBlock, node_count, IsSymmetricByBlocks}
-use Rattle.sym_blocks.specs.Storage.{Block, contents, list_of, block_beside, at_place, stored, matrix_of, IsLayout, IsStorage, IsWhole, AddsToStored}
+use Rattle.sym_blocks.specs.Matrix.{entry, IsSymmetricByBlocks}
+use Rattle.sym_blocks.specs.Storage.{Block, contents, list_of, block_beside, at_place, stored, matrix_of, IsLayout, IsStorage, IsWhole}
 use Rattle.sym_blocks.proofs.BlockLemmas.{block_beside-at, block_beside-absent, block_beside-set_other, at_place-set_same, at_place-set_other}
 
 -- the list that an element of the vectors holds

@@ -1,9 +1,9 @@
-use Rattle.std.proofs.Common.{◌≡◌, ◌/◌, ◌%◌, ◌+ℤ◌, get_or, [], pos, sym, ap, ◌∙◌, arith, subst, List, SFits, to_z, of_z, Vec, Global}
+use Rattle.std.proofs.Common.{◌/◌, ◌+ℤ◌, get_or, sym, ap, ◌∙◌, Vec, Global}
 use Rattle.std.specs.Int.{w128}
 use Rattle.std.proofs.lemmas.Int.{to_z-of_z}
-use Rattle.sym_blocks.specs.Storage.{Block, contents, list_of, stored, IsLayout, AddsToStored}
-use Rattle.sym_blocks.proofs.StorageLemmas.{contents-read, listing_in_range, written, IsLayout-written}
-use Rattle.sym_blocks.proofs.AddLemmas.{IsEntry, entry_read, fits_small, sum_is, AddsToStored-written}
+use Rattle.sym_blocks.specs.Storage.{Block, contents, stored}
+use Rattle.sym_blocks.proofs.StorageLemmas.{contents-read, listing_in_range, IsLayout-written}
+use Rattle.sym_blocks.proofs.AddLemmas.{entry_read, fits_small, sum_is, AddsToStored-written}
 use Rattle.sym_blocks.proofs.blocks.add_at.Goals as goal
 
 pub find_rising-requires : goal.find_rising-requires

@@ -1,6 +1,5 @@
-use Rattle.std.proofs.Common.{◌∙◌, ◌/◌, ap, sym, arith, ℤ, ◌+ℤ◌}
+use Rattle.std.proofs.Common.{◌/◌, sym}
 use Rattle.std.specs.Int.{w128}
-use Rattle.std.specs.Int.RustNames.{unsigned_abs}
 use Rattle.std.proofs.lemmas.Int.{to_z-of_z}
 use Rattle.sym_blocks.proofs.AddLemmas.{AddsBoth-one, AddsBoth-two, symmetric-AddsBoth}
 use Rattle.sym_blocks.proofs.blocks.add_both.Goals as goal

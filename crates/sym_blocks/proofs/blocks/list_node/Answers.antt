@@ -1,6 +1,5 @@
 use Rattle.sym_blocks.proofs.LinkLemmas.{ListsNode-set, on_ok_both}
 use Rattle.sym_blocks.proofs.StorageLemmas.{contents-read}
-use Rattle.std.proofs.Common.{◌∙◌, ap, sym, ◌↔◌, ℕ, subst, Contains, ◌⊎◌, ◌≡◌, List}
 use Rattle.sym_blocks.proofs.blocks.list_node.Goals as goal
 
 pub insert_rising-requires : goal.insert_rising-requires

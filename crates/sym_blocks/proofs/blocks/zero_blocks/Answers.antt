@@ -1,4 +1,4 @@
-use Rattle.std.proofs.Common.{ℕ, ◌≡◌, ◌+◌, ◌∷◌, [], ◌++◌, List, length, get_or, take, replicate, Vec, Global, ap, sym, ◌∙◌, arith}
+use Rattle.std.proofs.Common.{ℕ, ◌≡◌, ◌+◌, ◌∷◌, [], ◌++◌, List, length, take, replicate, Vec, Global, ap, sym, ◌∙◌, arith}
 use Rattle.std.proofs.lemmas.List.{map_push, take_more}
 use Rattle.sym_blocks.specs.Storage.{Block, contents, zero_block, zero_blocks_of}
 use Rattle.sym_blocks.proofs.blocks.zero_blocks.Goals as goal

@@ -1,4 +1,3 @@
-use Rattle.std.proofs.Common.{rules}
 use Rattle.sym_blocks.proofs.RisingLemmas.{place_found}
 use Rattle.sym_blocks.proofs.rising.find_rising.Goals as goal
 

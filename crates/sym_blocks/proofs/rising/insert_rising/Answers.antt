@@ -1,4 +1,4 @@
-use Rattle.std.proofs.Common.{Err, rules}
+use Rattle.std.proofs.Common.{Err}
 use Rattle.std.proofs.lemmas.List.Sorted.{searched}
 use Rattle.sym_blocks.proofs.RisingLemmas.{IsRising-insert, IsRising-le, Contains-insert, IsPlace}
 use Rattle.sym_blocks.proofs.rising.insert_rising.Goals as goal

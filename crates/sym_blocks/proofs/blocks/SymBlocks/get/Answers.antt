@@ -1,7 +1,7 @@
-use Rattle.std.proofs.Common.{◌≡◌, ◌/◌, ◌∙◌, sym, ap, arith, to_z, of_z, get_or, Vec, Global, List, ℕ}
+use Rattle.std.proofs.Common.{◌/◌, ◌∙◌, sym, ap, to_z, of_z}
 use Rattle.std.specs.Int.{w128}
 use Rattle.std.proofs.lemmas.Int.{to_z-of_z}
-use Rattle.sym_blocks.specs.Storage.{Block, contents, stored}
+use Rattle.sym_blocks.specs.Storage.{contents, stored}
 use Rattle.sym_blocks.specs.Matrix.{Matrix, entry, pattern_of}
 use Rattle.sym_blocks.proofs.StorageLemmas.{entry-matrix_of}
 use Rattle.sym_blocks.proofs.AddLemmas.{entry_read, fits_small}

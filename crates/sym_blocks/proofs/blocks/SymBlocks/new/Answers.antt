@@ -1,9 +1,7 @@
-use Rattle.std.proofs.Common.{◌≡◌, ◌∙◌, ap, sym, subst, arith, ℕ, length, All, ◌<◌, List, ◌↔◌, Contains, pos, refl}
+use Rattle.std.proofs.Common.{◌≡◌, ◌∙◌, ap, sym, arith, length}
 use Rattle.std.specs.Vec.{with_items}
-use Rattle.std.proofs.lemmas.List.{with_items_is, length-map}
-use Rattle.sym_blocks.specs.Rising.{IsRising}
-use Rattle.sym_blocks.specs.Matrix.{IsLinked, entry}
-use Rattle.sym_blocks.specs.Storage.{Block, contents, list_of, own_lists_of, zero_blocks_of, matrix_of, IsStorage, LinksLists}
+use Rattle.std.proofs.lemmas.List.{with_items_is}
+use Rattle.sym_blocks.specs.Storage.{contents, own_lists_of, zero_blocks_of, LinksLists}
 use Rattle.sym_blocks.proofs.StorageLemmas.{length-contents}
 use Rattle.sym_blocks.proofs.NewLemmas.{length-own_lists_of, IsStorage-new, IsRising-own, entry-zero, members_linked}
 use Rattle.sym_blocks.proofs.blocks.SymBlocks.new.Goals as goal

@@ -1,4 +1,4 @@
-use Rattle.std.proofs.Common.{subst, sym}
+use Rattle.std.proofs.Common.{subst}
 use Rattle.sym_blocks.specs.Matrix.{IsSymmetricByBlocks}
 use Rattle.sym_blocks.proofs.StorageLemmas.{IsSymmetricByBlocks-matrix_of}
 use Rattle.sym_blocks.proofs.blocks.SymBlocks.pattern.Goals as goal
