@@ -2,7 +2,7 @@
 use Rattle.std.proofs.Common.{◌≡◌, ℕ, zero, suc, ◌<◌, cond, List, [], ◌∷◌, length, get_or, set, Contains, inl, inr, ◌∙◌, sym, ap, refl, arith, eqb, ℤ, pos}
 use Rattle.std.proofs.lemmas.Bool.{cases_eq, eq-eqb, ne_eqb}
 use Rattle.std.proofs.lemmas.List.{get_or-set_same, get_or-set_other}
-use Rattle.sym_blocks.specs.Rising.{IsRising}
+use Rattle.rising_list.specs.Rising.{IsRising}
 use Rattle.sym_blocks.specs.Storage.{Block, block_beside, at_place}
 
 rising_tail : (n : ℕ) (ns : List ℕ) → IsRising (n ∷ ns) → IsRising ns

@@ -1,4 +1,3 @@
-pub mod RisingLemmas
 pub mod BlockLemmas
 pub mod StorageLemmas
 pub mod AddLemmas

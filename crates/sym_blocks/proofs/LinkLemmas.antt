@@ -3,7 +3,7 @@ use Rattle.std.proofs.Common.{◌≡◌, ℕ, ◌<◌, List, [], ◌∷◌, ◌+
 use Rattle.std.proofs.lemmas.Bool.{cases_eq}
 use Rattle.std.proofs.lemmas.List.{get_or-set_same, get_or-set_other, length-map, length-set, map-set}
 use Rattle.std.proofs.lemmas.List.Elements.{Contains-append_left, Contains-append_right, Contains-append_cases}
-use Rattle.sym_blocks.specs.Rising.{IsRising}
+use Rattle.rising_list.specs.Rising.{IsRising}
 use Rattle.sym_blocks.specs.Storage.{contents, list_of, ListsNode, LinksLists}
 use Rattle.sym_blocks.proofs.StorageLemmas.{contents-read}
 

@@ -5,7 +5,7 @@ use Rattle.std.proofs.lemmas.Bool.{cases_lt, cases_eq, eq-eqb, ne_eqb}
 use Rattle.std.proofs.lemmas.List.{get_or_past, get_or-map, length-map, length-replicate, get_or-replicate}
 use Rattle.std.proofs.lemmas.List.Elements.{All-contains}
 use Rattle.std.proofs.lemmas.List.FromFn.{get_or-map-range_with_len, length-map-range_with_len}
-use Rattle.sym_blocks.specs.Rising.{IsRising}
+use Rattle.rising_list.specs.Rising.{IsRising}
 use Rattle.sym_blocks.specs.Matrix.{entry, IsLinked}
 use Rattle.sym_blocks.specs.Storage.{Block, list_of, own_lists_of, zero_block, zero_blocks_of, block_beside, at_place, stored, matrix_of, IsStorage, IsWhole, LinksLists}
 use Rattle.sym_blocks.proofs.StorageLemmas.{entry-matrix_of}

@@ -3,7 +3,7 @@ use Rattle.std.specs.Prelude.{Vec, ◌≡◌, ℕ, ◌*◌, ◌/◌, ◌%◌, �
 use Rattle.std.specs.List.{range_with_len}
 use Rattle.std.specs.Int.RustNames.{unsigned_abs}
 use Rattle.std.specs.declared.alloc.Global.{Global}
-use Rattle.sym_blocks.specs.Rising.{IsRising}
+use Rattle.rising_list.specs.Rising.{IsRising}
 use Rattle.sym_blocks.specs.Matrix.{Matrix}
 
 -- a block: six rows of six entries

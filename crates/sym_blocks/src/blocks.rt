@@ -1,9 +1,9 @@
 ghost use Rattle.std.specs.Prelude.{◌≡◌, ◌∷◌, ◌↔◌, OnOk, ℕ, ◌+◌, ◌*◌, ◌/◌, ◌^◌, ◌<◌, IfOk, Contains, All, ℤ, pos, ◌+ℤ◌, length, slice_index_or, [], replicate};
-ghost use Rattle.sym_blocks.specs.Rising.{IsRising};
+ghost use Rattle.rising_list.specs.Rising.{IsRising};
 ghost use Rattle.sym_blocks.specs.Storage.{contents, list_of, own_lists_of, zero_block, zero_blocks_of, stored, ListsNode, LinksLists, IsLayout, IsStorage, AddsToStored, AddsBoth};
 ghost use Rattle.std.specs.Int.RustNames.{unsigned_abs};
 
-use crate::rising::{find_rising, insert_rising};
+use rising_list::{find_rising, insert_rising};
 use std::alloc::{AllocError, Global};
 use std::marker::Model;
 

@@ -2,7 +2,5 @@
 #![tactic(auto)]
 
 mod blocks;
-mod rising;
 
 pub use blocks::{NoMemory, SymBlocks};
-pub use rising::{find_rising, insert_rising};
