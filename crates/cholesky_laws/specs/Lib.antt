@@ -1,0 +1,4 @@
+pub mod Sums
+pub mod Recurrence
+pub mod Elimination
+pub mod Breakdown
