@@ -1,4 +1,6 @@
 -- What the code reads and writes where it adds to a stored entry.
+use Rattle.rising_list.proofs.ListsLemmas.{contents-read, listing_in_range}
+use Rattle.rising_list.specs.Lists.{contents, list_of}
 use Rattle.std.proofs.Common.{◌≡◌, ℕ, ◌/◌, ◌%◌, ◌^◌, ◌<◌, List, [], length, get_or, set, ◌∙◌, sym, ap, arith, ℤ, ◌+ℤ◌, to_z, of_z, SFits, Vec, Global, refl, subst, inl, inr}
 use Rattle.std.specs.Int.{w128}
 use Rattle.std.specs.Int.RustNames.{unsigned_abs}
@@ -7,8 +9,8 @@ use Rattle.std.proofs.lemmas.List.{map-set, get_or_default}
 use Rattle.std.proofs.lemmas.List.Elements.{Contains-get_or}
 use Rattle.std.proofs.lemmas.Int.{to_z-of_z, fits_signed_from_abs}
 use Rattle.sym_blocks.specs.Matrix.{AddsAt}
-use Rattle.sym_blocks.specs.Storage.{Block, contents, list_of, stored, matrix_of, at_place, IsLayout, AddsToStored, AddsBoth}
-use Rattle.sym_blocks.proofs.StorageLemmas.{IsTarget, contents-read, listing_in_range, stored_target, written, stored-written_same, stored-written_other, cases_both, entry-matrix_of}
+use Rattle.sym_blocks.specs.Storage.{Block, stored, matrix_of, at_place, IsLayout, AddsToStored, AddsBoth}
+use Rattle.sym_blocks.proofs.StorageLemmas.{IsTarget, stored_target, written, stored-written_same, stored-written_other, cases_both, entry-matrix_of}
 
 -- what was read on the way to an entry, by what is stored: the place of the column's node, and its block
 pub record IsEntry (lists : List (List ℕ)) (blocks : List (Vec Block Global)) (row col : ℕ) (beside : Vec Block Global) (place : ℕ) (block : Block) : Type 0 where

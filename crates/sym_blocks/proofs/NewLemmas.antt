@@ -1,13 +1,14 @@
 -- The matrix of zeros that pairs make.
+use Rattle.rising_list.specs.Lists.{list_of}
 use Rattle.std.proofs.Common.{◌≡◌, ℕ, ◌/◌, ◌%◌, ◌<◌, ◌≤◌, cond, List, [], ◌∷◌, length, get_or, replicate, Contains, All, inl, inr, ◌↔◌, ◌∙◌, sym, ap, refl, arith, subst, ℤ, pos}
 use Rattle.std.specs.Int.RustNames.{unsigned_abs}
 use Rattle.std.proofs.lemmas.Bool.{cases_lt, cases_eq, eq-eqb, ne_eqb}
 use Rattle.std.proofs.lemmas.List.{get_or_past, get_or-map, length-map, length-replicate, get_or-replicate}
 use Rattle.std.proofs.lemmas.List.Elements.{All-contains}
 use Rattle.std.proofs.lemmas.List.FromFn.{get_or-map-range_with_len, length-map-range_with_len}
-use Rattle.rising_list.specs.Rising.{IsRising}
+use Rattle.rising_list.specs.Rising.{IsRising, place_of}
 use Rattle.sym_blocks.specs.Matrix.{entry, IsLinked}
-use Rattle.sym_blocks.specs.Storage.{Block, list_of, own_lists_of, zero_block, zero_blocks_of, block_beside, at_place, stored, matrix_of, IsStorage, IsWhole, LinksLists}
+use Rattle.sym_blocks.specs.Storage.{Block, own_lists_of, zero_block, zero_blocks_of, block_beside, at_place, stored, matrix_of, IsStorage, IsWhole, LinksLists}
 use Rattle.sym_blocks.proofs.StorageLemmas.{entry-matrix_of}
 
 -- ---- each node with itself alone
@@ -72,11 +73,10 @@ zero_in_row r c =
     ]
 
 beside_zero : (k : ℕ) (ns : List ℕ) (r c : ℕ) → at_place (block_beside k ns (replicate (length ns) zero_block)) r c ≡ pos 0
-beside_zero k [] r c = refl
-beside_zero k (n ∷ ns) r c =
-    elim (cases_eq n k) [
-      | inl e ↦ ap (λ t. at_place (cond t zero_block (block_beside k ns (replicate (length ns) zero_block))) r c) (eq-eqb n k e) ∙ zero_in_row r c
-      | inr apart ↦ ap (λ t. at_place (cond t zero_block (block_beside k ns (replicate (length ns) zero_block))) r c) (ne_eqb n k apart) ∙ beside_zero k ns r c
+beside_zero k ns r c =
+    elim (cases_lt (place_of k ns) (length ns)) [
+      | inl lt ↦ ap (λ (b : Block). at_place b r c) (get_or-replicate (length ns) (place_of k ns) zero_block [] lt) ∙ zero_in_row r c
+      | inr ge ↦ ap (λ (b : Block). at_place b r c) (get_or_past (replicate (length ns) zero_block) (place_of k ns) [] (omega (arith, length-replicate (length ns) zero_block)))
     ]
 
 pub stored-zero : (lists : List (List ℕ)) (i j : ℕ) → stored lists (zero_blocks_of lists) i j ≡ pos 0

@@ -1,4 +1,5 @@
 -- What is stored, read as a whole matrix, and a write to it.
+use Rattle.rising_list.specs.Lists.{contents, list_of}
 use Rattle.std.proofs.Common.{◌≡◌, ℕ, ◌*◌, ◌/◌, ◌%◌, ◌^◌, ◌<◌, ◌≤◌, List, [], length, get_or, set, map, Contains, ◌⊎◌, inl, inr, ◌∙◌, sym, ap, arith, subst, ℤ, pos, Vec, Global}
 use Rattle.std.specs.List.{range_with_len}
 use Rattle.std.specs.Int.RustNames.{unsigned_abs}
@@ -6,19 +7,14 @@ use Rattle.std.proofs.lemmas.Bool.{cases_lt, cases_eq}
 use Rattle.std.proofs.lemmas.List.{get_or-set_same, get_or-set_other, get_or_past, get_or_default, get_or-map, length-map, length-set}
 use Rattle.std.proofs.lemmas.List.FromFn.{get_or-map-range_with_len, length-map-range_with_len}
 use Rattle.sym_blocks.specs.Matrix.{entry, IsSymmetricByBlocks}
-use Rattle.sym_blocks.specs.Storage.{Block, contents, list_of, block_beside, at_place, stored, matrix_of, IsLayout, IsStorage, IsWhole}
+use Rattle.sym_blocks.specs.Storage.{Block, block_beside, at_place, stored, matrix_of, IsLayout, IsStorage, IsWhole}
 use Rattle.sym_blocks.proofs.BlockLemmas.{block_beside-at, block_beside-absent, block_beside-set_other, at_place-set_same, at_place-set_other}
-
--- the list that an element of the vectors holds
-pub contents-read : {X : Type 0} (vs : List (Vec X Global)) (i : ℕ) (v : Vec X Global) → i < length vs → v ≡ get_or vs i v → list_of (contents vs) i ≡ v.items
-contents-read {X} vs i v lt is =
-    get_or-map (λ (w : Vec X Global). w.items) vs i v [] lt ∙ ap (λ (w : Vec X Global). w.items) (sym is)
 
 -- ---- the whole matrix
 -- a node outside the pattern reads 0
-pub stored_outside : (lists : List (List ℕ)) (blocks : List (List Block)) (i j : ℕ) → (Contains (list_of lists (i / 6)) (j / 6) → ⊥) → stored lists blocks i j ≡ pos 0
-stored_outside lists blocks i j absent =
-    ap (λ (b : Block). at_place b (i % 6) (j % 6)) (block_beside-absent (list_of lists (i / 6)) (list_of blocks (i / 6)) (j / 6) absent)
+pub stored_outside : (lists : List (List ℕ)) (blocks : List (List Block)) (i j : ℕ) → IsLayout lists blocks → (Contains (list_of lists (i / 6)) (j / 6) → ⊥) → stored lists blocks i j ≡ pos 0
+stored_outside lists blocks i j ok absent =
+    ap (λ (b : Block). at_place b (i % 6) (j % 6)) (block_beside-absent (list_of lists (i / 6)) (list_of blocks (i / 6)) (j / 6) (ok.aligned (i / 6)) absent)
 
 nothing_past : (lists : List (List ℕ)) (n k : ℕ) → length lists ≤ n → Contains (list_of lists n) k → ⊥
 nothing_past lists n k le (p, lt, is) =
@@ -38,11 +34,11 @@ entry-matrix_of lists blocks ok i j =
             | inl jl ↦ get_or-map-range_with_len (stored lists blocks i) 0 n j j (pos 0) jl (omega arith)
             | inr jge ↦
                 get_or_past row j (pos 0) (omega (arith, length-map-range_with_len (stored lists blocks i) 0 n))
-                ∙ sym (stored_outside lists blocks i j (λ q. omega (arith, ok.in_range (i / 6) (j / 6) q)))
+                ∙ sym (stored_outside lists blocks i j ok (λ q. omega (arith, ok.in_range (i / 6) (j / 6) q)))
           ]
       | inr ige ↦
           ap (λ (xs : List ℤ). get_or xs j (pos 0)) (get_or_past (map (λ k. map (stored lists blocks k) (range_with_len 0 n)) (range_with_len 0 n)) i [] (omega (arith, length-map-range_with_len (λ k. map (stored lists blocks k) (range_with_len 0 n)) 0 n)))
-          ∙ sym (stored_outside lists blocks i j (nothing_past lists (i / 6) (j / 6) (omega arith)))
+          ∙ sym (stored_outside lists blocks i j ok (nothing_past lists (i / 6) (j / 6) (omega arith)))
     ]
 
 pub IsSymmetricByBlocks-matrix_of : (lists : List (List ℕ)) (blocks : List (List Block)) → IsStorage lists blocks → IsSymmetricByBlocks (matrix_of lists blocks)
@@ -55,7 +51,7 @@ IsSymmetricByBlocks-matrix_of lists blocks ok =
       converse = ok.layout.converse;
       symmetric = λ i j. at i j ∙ ok.symmetric i j ∙ sym (at j i);
       small = λ i j. omega (arith, ok.layout.small i j, ap unsigned_abs (at i j));
-      outside = λ i j absent. at i j ∙ stored_outside lists blocks i j absent;
+      outside = λ i j absent. at i j ∙ stored_outside lists blocks i j ok.layout absent;
     }
 
 -- ---- a write
@@ -106,7 +102,7 @@ stored-written_same lists blocks row col p w ok at =
     let whole = ok.whole n p in'.1 in
     let beside : block_beside (col / 6) ns (set bs p b') ≡ b' =
     ap (λ (k : ℕ). block_beside k ns (set bs p b')) (sym at.node)
-    ∙ block_beside-at ns (set bs p b') p (ok.rising n) (length-set bs p b' ∙ ok.aligned n) at.place
+    ∙ block_beside-at ns (set bs p b') p (ok.rising n) at.place
     ∙ get_or-set_same bs p b' [] in'.1
     in
     ap (λ (xs : List Block). at_place (block_beside (col / 6) ns xs) r c) (list_of-written_same blocks n p r c w in'.0)
@@ -118,7 +114,7 @@ target_block : (lists : List (List ℕ)) (blocks : List (List Block)) (row col p
 target_block lists blocks row col p ok at =
     let ns = list_of lists (row / 6) in
     let bs = list_of blocks (row / 6) in
-    ap (λ (k : ℕ). block_beside k ns bs) (sym at.node) ∙ block_beside-at ns bs p (ok.rising (row / 6)) (ok.aligned (row / 6)) at.place
+    ap (λ (k : ℕ). block_beside k ns bs) (sym at.node) ∙ block_beside-at ns bs p (ok.rising (row / 6)) at.place
 
 pub stored_target : (lists : List (List ℕ)) (blocks : List (List Block)) (row col p : ℕ) → IsLayout lists blocks → IsTarget lists row col p → stored lists blocks row col ≡ at_place (get_or (list_of blocks (row / 6)) p []) (row % 6) (col % 6)
 stored_target lists blocks row col p ok at = ap (λ (x : Block). at_place x (row % 6) (col % 6)) (target_block lists blocks row col p ok at)
@@ -147,7 +143,7 @@ stored-written_other lists blocks row col p i j w ok at apart =
             | inl to ↦
                 let beside : block_beside (j / 6) ns (set bs p b') ≡ b' =
                 ap (λ (k : ℕ). block_beside k ns (set bs p b')) (sym (at.node ∙ to))
-                ∙ block_beside-at ns (set bs p b') p (ok.rising n) (length-set bs p b' ∙ ok.aligned n) at.place
+                ∙ block_beside-at ns (set bs p b') p (ok.rising n) at.place
                 ∙ get_or-set_same bs p b' [] in'.1
                 in
                 ap (λ (x : Block). at_place x (i % 6) (j % 6)) beside
@@ -223,18 +219,3 @@ IsLayout-written lists blocks row col p w ok at w-small =
             | inr apart ↦ omega (arith, ok.small i j, ap unsigned_abs (stored-written_other lists blocks row col p i j w ok at apart))
           ];
     }
-
--- a node that lists another is a node
-pub listing_in_range : {X : Type 0} (vs : List (Vec X Global)) (n : ℕ) (k : X) → Contains (list_of (contents vs) n) k → n < length vs
-listing_in_range {X} vs n k (p, lt, is) =
-    elim (cases_lt n (length vs)) [
-      | inl in' ↦ in'
-      | inr le ↦
-          let none : list_of (contents vs) n ≡ [] = get_or_past (contents vs) n [] (omega (arith, length-map vs (λ (w : Vec X Global). w.items))) in
-          let P : List X → Type 0 = λ xs. p < length xs in
-          let lt' : p < 0 = subst P none lt in
-          omega arith
-    ]
-
-pub length-contents : {X : Type 0} (vs : List (Vec X Global)) → length (contents vs) ≡ length vs
-length-contents {X} vs = length-map vs (λ (w : Vec X Global). w.items)

@@ -1,22 +1,14 @@
 -- How a matrix by blocks is stored: beside each node's list of nodes a list of as many blocks.
-use Rattle.std.specs.Prelude.{Vec, ◌≡◌, ℕ, ◌*◌, ◌/◌, ◌%◌, ◌^◌, ◌<◌, ◌==◌, List, [], ◌∷◌, length, map, replicate, slice_index_or, Contains, if◌then◌else◌, ◌↔◌, ◌⊎◌, ℤ, pos, ◌+ℤ◌}
+use Rattle.std.specs.Prelude.{◌≡◌, ℕ, ◌*◌, ◌/◌, ◌%◌, ◌^◌, ◌<◌, ◌==◌, List, [], ◌∷◌, length, map, replicate, slice_index_or, Contains, if◌then◌else◌, ◌↔◌, ◌⊎◌, ℤ, pos, ◌+ℤ◌}
 use Rattle.std.specs.List.{range_with_len}
 use Rattle.std.specs.Int.RustNames.{unsigned_abs}
-use Rattle.std.specs.declared.alloc.Global.{Global}
-use Rattle.rising_list.specs.Rising.{IsRising}
+use Rattle.rising_list.specs.Rising.{IsRising, place_of}
+use Rattle.rising_list.specs.Lists.{list_of}
 use Rattle.sym_blocks.specs.Matrix.{Matrix}
 
 -- a block: six rows of six entries
 abbrev pub Block : Type 0
 Block = List (List ℤ)
-
--- the lists that vectors hold
-abbrev pub contents : {X : Type 0} → List (Vec X Global) → List (List X)
-contents vs = map (λ v. v.items) vs
-
--- the list of a node
-abbrev pub list_of : {X : Type 0} → List (List X) → ℕ → List X
-list_of lists n = slice_index_or lists n []
 
 -- the list of each node, where each node is listed with itself alone
 abbrev pub own_lists_of : ℕ → List (List ℕ)
@@ -43,9 +35,7 @@ zero_blocks_of lists = map (λ list. replicate (length list) zero_block) lists
 
 -- the block that stands beside node k; none where k is not listed
 abbrev pub block_beside : ℕ → List ℕ → List Block → Block
-block_beside k [] blocks = []
-block_beside k (n ∷ nodes) [] = []
-block_beside k (n ∷ nodes) (b ∷ blocks) = if n == k then b else block_beside k nodes blocks
+block_beside k nodes blocks = slice_index_or blocks (place_of k nodes) []
 
 -- an entry of a block
 abbrev pub at_place : Block → ℕ → ℕ → ℤ

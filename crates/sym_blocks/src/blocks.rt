@@ -1,6 +1,7 @@
+ghost use Rattle.rising_list.specs.Lists.{contents, list_of};
 ghost use Rattle.std.specs.Prelude.{◌≡◌, ◌∷◌, ◌↔◌, OnOk, ℕ, ◌+◌, ◌*◌, ◌/◌, ◌^◌, ◌<◌, IfOk, Contains, All, ℤ, pos, ◌+ℤ◌, length, slice_index_or, [], replicate};
 ghost use Rattle.rising_list.specs.Rising.{IsRising};
-ghost use Rattle.sym_blocks.specs.Storage.{contents, list_of, own_lists_of, zero_block, zero_blocks_of, stored, ListsNode, LinksLists, IsLayout, IsStorage, AddsToStored, AddsBoth};
+ghost use Rattle.sym_blocks.specs.Storage.{own_lists_of, zero_block, zero_blocks_of, stored, ListsNode, LinksLists, IsLayout, IsStorage, AddsToStored, AddsBoth};
 ghost use Rattle.std.specs.Int.RustNames.{unsigned_abs};
 
 use rising_list::{find_rising, insert_rising};
@@ -23,7 +24,8 @@ pub struct SymBlocks {
 
 impl Model for SymBlocks {
     ghost use Rattle.sym_blocks.specs.Matrix.{Matrix};
-    ghost use Rattle.sym_blocks.specs.Storage.{contents, matrix_of, IsStorage};
+    ghost use Rattle.rising_list.specs.Lists.{contents};
+    ghost use Rattle.sym_blocks.specs.Storage.{matrix_of, IsStorage};
 
     ghost Value = { Matrix };
 

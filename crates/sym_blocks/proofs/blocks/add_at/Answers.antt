@@ -1,8 +1,10 @@
+use Rattle.rising_list.proofs.ListsLemmas.{contents-read, listing_in_range}
+use Rattle.rising_list.specs.Lists.{contents}
 use Rattle.std.proofs.Common.{◌/◌, ◌+ℤ◌, get_or, sym, ap, ◌∙◌, Vec, Global}
 use Rattle.std.specs.Int.{w128}
 use Rattle.std.proofs.lemmas.Int.{to_z-of_z}
-use Rattle.sym_blocks.specs.Storage.{Block, contents, stored}
-use Rattle.sym_blocks.proofs.StorageLemmas.{contents-read, listing_in_range, IsLayout-written}
+use Rattle.sym_blocks.specs.Storage.{Block, stored}
+use Rattle.sym_blocks.proofs.StorageLemmas.{IsLayout-written}
 use Rattle.sym_blocks.proofs.AddLemmas.{entry_read, fits_small, sum_is, AddsToStored-written}
 use Rattle.sym_blocks.proofs.blocks.add_at.Goals as goal
 

@@ -1,5 +1,5 @@
+use Rattle.rising_list.proofs.ListsLemmas.{contents-read}
 use Rattle.sym_blocks.proofs.LinkLemmas.{ListsNode-set, on_ok_both}
-use Rattle.sym_blocks.proofs.StorageLemmas.{contents-read}
 use Rattle.sym_blocks.proofs.blocks.list_node.Goals as goal
 
 pub insert_rising-requires : goal.insert_rising-requires

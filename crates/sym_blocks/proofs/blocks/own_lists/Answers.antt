@@ -1,7 +1,8 @@
+use Rattle.rising_list.specs.Lists.{contents}
 use Rattle.std.proofs.Common.{ℕ, ◌∷◌, [], ◌++◌, List, Vec, Global, ap, sym, ◌∙◌, arith}
 use Rattle.std.proofs.lemmas.List.{map_push}
 use Rattle.std.proofs.lemmas.List.FromFn.{map-range_with_len_more}
-use Rattle.sym_blocks.specs.Storage.{contents, own_lists_of}
+use Rattle.sym_blocks.specs.Storage.{own_lists_of}
 use Rattle.sym_blocks.proofs.blocks.own_lists.Goals as goal
 
 pub loop-node-preserved : goal.loop-node-preserved

@@ -1,6 +1,7 @@
+use Rattle.rising_list.specs.Lists.{contents}
 use Rattle.std.proofs.Common.{ℕ, ◌≡◌, ◌+◌, ◌∷◌, [], ◌++◌, List, length, take, replicate, Vec, Global, ap, sym, ◌∙◌, arith}
 use Rattle.std.proofs.lemmas.List.{map_push, take_more}
-use Rattle.sym_blocks.specs.Storage.{Block, contents, zero_block, zero_blocks_of}
+use Rattle.sym_blocks.specs.Storage.{Block, zero_block, zero_blocks_of}
 use Rattle.sym_blocks.proofs.blocks.zero_blocks.Goals as goal
 
 pub loop-list-preserved : goal.loop-list-preserved

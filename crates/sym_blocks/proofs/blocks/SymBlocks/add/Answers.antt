@@ -1,3 +1,4 @@
+use Rattle.rising_list.specs.Lists.{contents}
 use Rattle.std.proofs.Common.{◌≡◌, ◌/◌, ◌^◌, ◌<◌, sym, subst, arith, ◌+ℤ◌, Contains}
 use Rattle.std.specs.Int.{w128}
 use Rattle.std.specs.Int.RustNames.{unsigned_abs}
@@ -5,7 +6,7 @@ use Rattle.std.specs.Vec.{with_items}
 use Rattle.std.proofs.lemmas.List.{with_items_is}
 use Rattle.std.proofs.lemmas.Int.{to_z-of_z}
 use Rattle.sym_blocks.specs.Matrix.{Matrix, entry, pattern_of, AddsAt}
-use Rattle.sym_blocks.specs.Storage.{contents, matrix_of}
+use Rattle.sym_blocks.specs.Storage.{matrix_of}
 use Rattle.sym_blocks.proofs.StorageLemmas.{entry-matrix_of}
 use Rattle.sym_blocks.proofs.AddLemmas.{AddsAt-matrix_of}
 use Rattle.sym_blocks.proofs.blocks.SymBlocks.add.Goals as goal

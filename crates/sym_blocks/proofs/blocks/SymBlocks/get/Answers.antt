@@ -1,7 +1,8 @@
+use Rattle.rising_list.specs.Lists.{contents}
 use Rattle.std.proofs.Common.{◌/◌, ◌∙◌, sym, ap, to_z, of_z}
 use Rattle.std.specs.Int.{w128}
 use Rattle.std.proofs.lemmas.Int.{to_z-of_z}
-use Rattle.sym_blocks.specs.Storage.{contents, stored}
+use Rattle.sym_blocks.specs.Storage.{stored}
 use Rattle.sym_blocks.specs.Matrix.{Matrix, entry, pattern_of}
 use Rattle.sym_blocks.proofs.StorageLemmas.{entry-matrix_of}
 use Rattle.sym_blocks.proofs.AddLemmas.{entry_read, fits_small}

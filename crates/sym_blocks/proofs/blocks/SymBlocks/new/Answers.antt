@@ -1,8 +1,9 @@
+use Rattle.rising_list.proofs.ListsLemmas.{length-contents}
+use Rattle.rising_list.specs.Lists.{contents}
 use Rattle.std.proofs.Common.{◌≡◌, ◌∙◌, ap, sym, arith, length}
 use Rattle.std.specs.Vec.{with_items}
 use Rattle.std.proofs.lemmas.List.{with_items_is}
-use Rattle.sym_blocks.specs.Storage.{contents, own_lists_of, zero_blocks_of, LinksLists}
-use Rattle.sym_blocks.proofs.StorageLemmas.{length-contents}
+use Rattle.sym_blocks.specs.Storage.{own_lists_of, zero_blocks_of, LinksLists}
 use Rattle.sym_blocks.proofs.NewLemmas.{length-own_lists_of, IsStorage-new, IsRising-own, entry-zero, members_linked}
 use Rattle.sym_blocks.proofs.blocks.SymBlocks.new.Goals as goal
 
