@@ -7,12 +7,13 @@ use Rattle.flex_num.specs.Division.{nearest_of, IsNearest}
 use Rattle.flex_num.specs.Root.{root_of, IsRoot}
 use Rattle.flex_num.proofs.DivisionLemmas.{nearest_of-is, nearest_unique}
 use Rattle.flex_num.proofs.RootLemmas.{root_of-is}
-use Rattle.cholesky_laws.specs.Sums.{sum_below}
-use Rattle.cholesky_laws.specs.Recurrence.{cholesky, left_after, pivot, row_at, scaled}
+use Rattle.int_laws.specs.Sums.{sum_below}
+use Rattle.cholesky_laws.specs.Recurrence.{cholesky, left_after, pivot, freedom_at, scaled}
 use Rattle.cholesky_laws.proofs.RecurrenceLemmas.{cases_pivot, cholesky-broken, cholesky-diagonal, cholesky-below}
 use Rattle.cholesky_laws.specs.Elimination.{parent_of, is_in_subtree}
 use Rattle.cholesky_laws.specs.Breakdown.{squares}
-use Rattle.cholesky_laws.proofs.SumsLemmas.{sum_below-nonnegative, sum_below-le, sum_below-by_six, sum_below-at_most, sum_below-term}
+use Rattle.int_laws.proofs.SumLaws.{sum_below-nonnegative, sum_below-le}
+use Rattle.cholesky_laws.proofs.SumsLemmas.{sum_below-by_six, sum_below-at_most, sum_below-term}
 use Rattle.cholesky_laws.proofs.SubtreeLemmas.{picked, names, node_squares, squares-children, squares-subtree_sum, subtree_sum}
 
 -- twice a product is at most the sum of the squares, either way
@@ -138,10 +139,10 @@ cholesky-zero a i j lt none =
 pub scaled-small : (km : ℕ → ℕ → ℤ) (order : List ℕ) (shift : ℤ) → ((i j : ℕ) → unsigned_abs (km i j) < 2 ^ 60) → pos 0 ≤ℤ shift → shift ≤ℤ pos (2 ^ 44) → (i j : ℕ) → unsigned_abs (scaled km order shift i j) < 2 ^ 113
 unfolding scaled
 scaled-small km order shift small low high i j =
-    let k = small (row_at order i) (row_at order j) in
+    let k = small (freedom_at order i) (freedom_at order j) in
     let off = shift_size (eqb i j) shift low high in
-    let size = unsigned_abs-mul (pos (2 ^ 52)) (km (row_at order i) (row_at order j) -ℤ cond (eqb i j) shift (pos 0)) in
-    let inner : unsigned_abs (km (row_at order i) (row_at order j) -ℤ cond (eqb i j) shift (pos 0)) < 2 ^ 61 = omega (arith, int_sums, off.0, off.1) in
+    let size = unsigned_abs-mul (pos (2 ^ 52)) (km (freedom_at order i) (freedom_at order j) -ℤ cond (eqb i j) shift (pos 0)) in
+    let inner : unsigned_abs (km (freedom_at order i) (freedom_at order j) -ℤ cond (eqb i j) shift (pos 0)) < 2 ^ 61 = omega (arith, int_sums, off.0, off.1) in
     omega (arith, size, inner)
   where
     shift_size : (b : Bool) (shift : ℤ) → pos 0 ≤ℤ shift → shift ≤ℤ pos (2 ^ 44) → (pos 0 ≤ℤ cond b shift (pos 0)) × (cond b shift (pos 0) ≤ℤ pos (2 ^ 44))

@@ -4,11 +4,12 @@ use Rattle.std.specs.Option.{option_map_or}
 use Rattle.std.specs.Prelude.{option_and_then}
 use Rattle.std.proofs.lemmas.Bool.{cases_eq, eq-eqb, ne_eqb, eqb-true, eqb-false}
 use Rattle.int_laws.proofs.Sums.{int_sums}
-use Rattle.cholesky_laws.specs.Sums.{sum_below}
+use Rattle.int_laws.specs.Sums.{sum_below}
 use Rattle.cholesky_laws.specs.Recurrence.{cholesky}
 use Rattle.cholesky_laws.specs.Elimination.{parent_of, met_from, is_in_subtree}
 use Rattle.cholesky_laws.specs.Breakdown.{squares}
-use Rattle.cholesky_laws.proofs.SumsLemmas.{sum_below-same, sum_below-zero, sum_below-cut, sum_below-by_six, sum_below-add}
+use Rattle.int_laws.proofs.SumLaws.{sum_below-same, sum_below-zero, sum_below-add}
+use Rattle.cholesky_laws.proofs.SumsLemmas.{sum_below-cut, sum_below-by_six}
 
 -- a number where a test holds, else 0
 abbrev pub picked : Bool → ℤ → ℤ

@@ -3,40 +3,8 @@ use Rattle.std.proofs.Common.{◌≡◌, ℕ, zero, suc, ◌+◌, ◌*◌, ◌<�
 use Rattle.std.proofs.lemmas.Bool.{cases_lt}
 use Rattle.int_laws.proofs.Sums.{int_sums}
 use Rattle.int_laws.proofs.Products.{mul_comm, add-mul, mul-add, square_nonnegative, zero-mul}
-use Rattle.cholesky_laws.specs.Sums.{sum_below}
-
-pub sum_below-same : (n : ℕ) (f g : ℕ → ℤ) → ((k : ℕ) → k < n → f k ≡ g k) → sum_below n f ≡ sum_below n g
-sum_below-same zero f g h = refl
-sum_below-same (suc n) f g h =
-    let rest = sum_below-same n f g (λ k lt. h k (omega arith)) in
-    let last = h n (omega arith) in
-    omega (arith, int_sums)
-
-pub sum_below-zero : (n : ℕ) (f : ℕ → ℤ) → ((k : ℕ) → k < n → f k ≡ pos 0) → sum_below n f ≡ pos 0
-sum_below-zero zero f h = refl
-sum_below-zero (suc n) f h =
-    let rest = sum_below-zero n f (λ k lt. h k (omega arith)) in
-    let last = h n (omega arith) in
-    omega (arith, int_sums)
-
-pub sum_below-add : (n : ℕ) (f g : ℕ → ℤ) → sum_below n (λ k. f k +ℤ g k) ≡ sum_below n f +ℤ sum_below n g
-sum_below-add zero f g = refl
-sum_below-add (suc n) f g = let rest = sum_below-add n f g in omega (arith, int_sums)
-
-pub sum_below-le : (n : ℕ) (f g : ℕ → ℤ) → ((k : ℕ) → k < n → f k ≤ℤ g k) → sum_below n f ≤ℤ sum_below n g
-sum_below-le zero f g h = omega (arith, int_sums)
-sum_below-le (suc n) f g h =
-    let rest = sum_below-le n f g (λ k lt. h k (omega arith)) in
-    let last = h n (omega arith) in
-    omega (arith, int_sums)
-
--- a sum of numbers that are at least 0
-pub sum_below-nonnegative : (n : ℕ) (f : ℕ → ℤ) → ((k : ℕ) → k < n → pos 0 ≤ℤ f k) → pos 0 ≤ℤ sum_below n f
-sum_below-nonnegative zero f h = omega (arith, int_sums)
-sum_below-nonnegative (suc n) f h =
-    let rest = sum_below-nonnegative n f (λ k lt. h k (omega arith)) in
-    let last = h n (omega arith) in
-    omega (arith, int_sums)
+use Rattle.int_laws.specs.Sums.{sum_below}
+use Rattle.int_laws.proofs.SumLaws.{sum_below-zero, sum_below-nonnegative}
 
 -- each of its terms is at most the sum
 pub sum_below-term : (n : ℕ) (f : ℕ → ℤ) → ((k : ℕ) → k < n → pos 0 ≤ℤ f k) → (m : ℕ) → m < n → f m ≤ℤ sum_below n f

@@ -1,4 +1,3 @@
-pub mod Sums
 pub mod Recurrence
 pub mod Elimination
 pub mod Breakdown

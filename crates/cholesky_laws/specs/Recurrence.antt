@@ -3,7 +3,7 @@
 use Rattle.std.specs.Prelude.{◌≡◌, ℕ, zero, suc, ◌+◌, ◌*◌, ◌/◌, ◌%◌, ◌^◌, ◌<◌, nat_eq, nat_lt, int_lt, List, [], ◌∷◌, slice_index, if◌then◌else◌, ℤ, pos, ◌+ℤ◌, ◌-ℤ◌, ◌*ℤ◌, ◌≤ℤ◌, ◌<ℤ◌}
 use Rattle.flex_num.specs.Division.{nearest_of}
 use Rattle.flex_num.specs.Root.{root_of}
-use Rattle.cholesky_laws.specs.Sums.{sum_below}
+use Rattle.int_laws.specs.Sums.{sum_below}
 
 -- what finished columns take from the entry in row i and column j
 abbrev pub products : List (ℕ → ℤ) → ℕ → ℕ → ℤ
@@ -49,9 +49,9 @@ pub record IsFactor (a g : ℕ → ℕ → ℤ) : Type 0 where
 
 -- the stiffness in elimination positions, scaled by 2^52 and with a shift off the diagonal entries: position 6 p + f is
 -- freedom f of the node at place p of the order
-abbrev pub row_at : List ℕ → ℕ → ℕ
-row_at order i = 6 * slice_index order (i / 6) + i % 6
+abbrev pub freedom_at : List ℕ → ℕ → ℕ
+freedom_at order i = 6 * slice_index order (i / 6) + i % 6
 
 unfoldable pub scaled : (ℕ → ℕ → ℤ) → List ℕ → ℤ → ℕ → ℕ → ℤ
 scaled km order shift i j =
-    pos (2 ^ 52) *ℤ (km (row_at order i) (row_at order j) -ℤ (if nat_eq i j then shift else pos 0))
+    pos (2 ^ 52) *ℤ (km (freedom_at order i) (freedom_at order j) -ℤ (if nat_eq i j then shift else pos 0))

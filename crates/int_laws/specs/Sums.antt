@@ -1,5 +1,6 @@
 -- Sums of whole numbers over indices.
-use Rattle.std.specs.Prelude.{ℕ, zero, suc, ℤ, pos, ◌+ℤ◌}
+use Rattle.std.specs.Prelude.{ℕ, ℤ, pos, ◌+ℤ◌}
+use Prim.Native.Nat.{zero, suc}
 
 -- f 0 + f 1 + .. + f (n - 1)
 abbrev pub sum_below : ℕ → (ℕ → ℤ) → ℤ
