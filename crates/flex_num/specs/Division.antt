@@ -12,7 +12,7 @@ pub record IsCeiling (n d q : ℤ) : Type 0 where
   pub at_least : n ≤ℤ (q *ℤ d)
   pub previous_below : ((q -ℤ pos 1) *ℤ d) <ℤ n
 
--- q is at most a half below n / d and less than a half above it, so it is the nearest, and of two the greater
+-- q - 1/2 <= n / d < q + 1/2: q is the nearest whole number, and of two the greater
 pub record IsNearest (n d q : ℤ) : Type 0 where
   pub half_below : ((pos 2 *ℤ q -ℤ pos 1) *ℤ d) ≤ℤ (pos 2 *ℤ n)
   pub half_above : (pos 2 *ℤ n) <ℤ ((pos 2 *ℤ q +ℤ pos 1) *ℤ d)

@@ -50,6 +50,10 @@ mul-sub a b c = omega (arith, int_sums, mul-add a b (neg_ℤ c), mul-neg a c)
 pub mul_assoc : (a b c : ℤ) → (a *ℤ b) *ℤ c ≡ a *ℤ (b *ℤ c)
 mul_assoc a b c = same_in _ _ (simp (up-mul, down-mul) (omega arith))
 
+-- the first factor past the second, to bring factors together
+pub mul_swap : (a b c : ℤ) → a *ℤ (b *ℤ c) ≡ b *ℤ (a *ℤ c)
+mul_swap a b c = same_in _ _ (simp (up-mul, down-mul) (omega arith))
+
 -- the two last factors change places
 pub mul_right_comm : (a b c : ℤ) → (a *ℤ b) *ℤ c ≡ (a *ℤ c) *ℤ b
 mul_right_comm a b c = same_in _ _ (simp (up-mul, down-mul) (omega arith))
