@@ -1,0 +1,5 @@
+pub mod SumsLemmas
+pub mod RecurrenceLemmas
+pub mod PanelLemmas
+pub mod SubtreeLemmas
+pub mod BoundLemmas

@@ -1,0 +1,2 @@
+// The integer Cholesky recurrence, its first breakdown, and the elimination of a graph in order, with their laws.
+#![tactic(auto)]

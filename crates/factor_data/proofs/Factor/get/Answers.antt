@@ -1,0 +1,25 @@
+use Rattle.std.proofs.Common.{rules, ap, sym, subst, ◌∙◌, ◌≡◌, ◌<◌, get_or, slice_index, to_z-of_z, pos, length, ℤ, ℕ, List, Contains}
+use mir.Syntax.{w64}
+use mir.Val.{SFits}
+use Rattle.factor_data.specs.Columns.{column_rows, column_values}
+use Rattle.factor_data.proofs.OrderLemmas.{spread-rising}
+use Rattle.factor_data.proofs.ColumnLemmas.{part-listed, part-missing}
+use Rattle.factor_data.proofs.Factor.get.Goals as goal
+
+pub returns-in-Some : goal.returns-in-Some
+returns-in-Some c =
+    let f = c.args.self.now in
+    let j = c.args.j in
+    let rows = column_rows c.args.self.now c.args.j in
+    let kept = c.column.ensures.kept in
+    let P : List ℕ → Type 0 = λ xs. (c.in-Some.place < length xs) × (slice_index xs c.in-Some.place ≡ c.args.i) in
+    let found = subst P c.column.ensures.rows c.in-Some.ensures in
+    let fits : SFits w64 (get_or c.column.result.1.now c.in-Some.place (pos 0)) = search rules in
+    let spread = spread-rising rows _ (kept.rising j) (λ i h. kept.in_range i j h) in
+    to_z-of_z fits ∙ ap (λ (xs : List ℤ). get_or xs c.in-Some.place (pos 0)) c.column.ensures.values
+    ∙ sym (part-listed (λ z. z) rows (column_values c.args.self.now c.args.j) _ c.in-Some.place c.args.i spread found.0 found.1)
+
+pub returns-in-None : goal.returns-in-None
+returns-in-None c =
+    let P : List ℕ → Type 0 = λ xs. Contains xs c.args.i → ⊥ in
+    sym (part-missing (λ z. z) (column_rows c.args.self.now c.args.j) (column_values c.args.self.now c.args.j) c.args.i (subst P c.column.ensures.rows c.in-None.ensures))

@@ -1,0 +1,6 @@
+use Rattle.std.proofs.Common.{◌≡◌, take}
+use Rattle.factor_data.specs.Columns.{contents}
+use Rattle.factor_data.proofs.copies.Given as goal
+
+abbrev pub invariant-loop-list : goal.invariant-loop-list
+invariant-loop-list g l = contents l.copies.items ≡ contents (take l.list-index l.lists)

@@ -1,0 +1,6 @@
+pub mod EndsLemmas
+pub mod FractionLemmas
+pub mod ProductLemmas
+pub mod QuotientLemmas
+pub mod RootLemmas
+pub mod SumLemmas

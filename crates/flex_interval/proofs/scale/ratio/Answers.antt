@@ -1,0 +1,27 @@
+use Rattle.std.proofs.Common.{rules, arith, FitsSigned, to_z-of_z}
+use Rattle.std.specs.Int.{w128}
+use Rattle.int_laws.proofs.Sums.{int_sums}
+use Rattle.flex_interval.proofs.FractionLemmas.{ratio_within, ratio_is_interval}
+use Rattle.flex_interval.proofs.scale.ratio.Goals as goal
+
+pub invariant_of-result : goal.invariant_of-result
+invariant_of-result c =
+    let lo_fits : FitsSigned w128 c.product.inside.lo = omega (arith, int_sums, c.product.invariant.lo_small) in
+    let hi_fits : FitsSigned w128 c.product.inside.hi = omega (arith, int_sums, c.product.invariant.hi_small) in
+    let floor_fits : FitsSigned w128 c.floor_div.result = search rules in
+    let ceiling_fits : FitsSigned w128 c.ceil_div.result = search rules in
+    rw (to_z-of_z floor_fits, to_z-of_z ceiling_fits)
+    (ratio_is_interval c.requires c.product.invariant
+    (rw (to_z-of_z lo_fits, to_z-of_z c.ranges.m) at c.floor_div.ensures.meaning)
+    (rw (to_z-of_z hi_fits, to_z-of_z c.ranges.m) at c.ceil_div.ensures.meaning))
+
+pub returns-clause-within : goal.returns-clause-within
+returns-clause-within c = λ x within.
+    let lo_fits : FitsSigned w128 c.product.inside.lo = omega (arith, int_sums, c.product.invariant.lo_small) in
+    let hi_fits : FitsSigned w128 c.product.inside.hi = omega (arith, int_sums, c.product.invariant.hi_small) in
+    let floor_fits : FitsSigned w128 c.floor_div.result = search rules in
+    let ceiling_fits : FitsSigned w128 c.ceil_div.result = search rules in
+    let floor = rw (to_z-of_z lo_fits, to_z-of_z c.ranges.m) at c.floor_div.ensures.meaning in
+    let ceiling = rw (to_z-of_z hi_fits, to_z-of_z c.ranges.m) at c.ceil_div.ensures.meaning in
+    rw (to_z-of_z floor_fits, to_z-of_z ceiling_fits)
+    (ratio_within _ _ c.args.n c.args.m x c.requires floor.at_most ceiling.at_least (rw (← c.product.view_is, to_z-of_z c.ranges.n) at (c.in_ok-product.ensures.within x within)))

@@ -1,0 +1,12 @@
+-- What an `Iv` is: an interval of whole numbers, by its ends.
+use Rattle.std.specs.Prelude.{◌^◌, ◌<◌, ℤ, ◌≤ℤ◌, unsigned_abs}
+
+pub record Ends : Type 0 where
+  pub lo : ℤ
+  pub hi : ℤ
+
+-- every `Iv` holds a number, and its ends are below 2^126 in size
+pub record IsInterval (e : Ends) : Type 0 where
+  pub ordered : e.lo ≤ℤ e.hi
+  pub lo_small : unsigned_abs e.lo < 2 ^ 126
+  pub hi_small : unsigned_abs e.hi < 2 ^ 126

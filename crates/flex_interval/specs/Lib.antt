@@ -1,0 +1,4 @@
+pub mod Ends
+pub mod Fraction
+pub mod Operations
+pub mod Roots

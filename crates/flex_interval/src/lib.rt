@@ -1,0 +1,20 @@
+// Interval arithmetic over whole numbers: each operation rounds its ends outwards, so that it encloses every exact result.
+#![tactic(auto)]
+
+mod fault;
+mod interval;
+mod order;
+mod product;
+mod quotient;
+mod scale;
+mod square_root;
+mod sum;
+
+pub use fault::{IvFault, Wide};
+pub use interval::{Iv, point};
+pub use order::{abs, max, min};
+pub use product::mul;
+pub use quotient::div;
+pub use scale::ratio;
+pub use square_root::root;
+pub use sum::{add, neg, sub};

@@ -1,0 +1,10 @@
+// Quotients, roots and products of whole numbers, each exact or rounded in the direction that its name says.
+#![tactic(auto)]
+
+mod division;
+mod product;
+mod root;
+
+pub use division::{ceil_div, floor_div, nearest_div};
+pub use product::mul;
+pub use root::{isqrt, isqrt_up};

@@ -1,0 +1,2 @@
+// Laws of whole numbers: products against sums and order, and sums alone.
+#![tactic(auto)]

@@ -1,0 +1,5 @@
+mod FieldLemmas
+mod LengthLemmas
+mod LineLemmas
+mod ModelLemmas
+mod RunLemmas

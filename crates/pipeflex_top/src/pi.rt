@@ -1,0 +1,19 @@
+ghost use Rattle.std.specs.Prelude.{◌≡◌, ◌*◌, ◌^◌, pos, ◌*ℤ◌};
+ghost use Rattle.flex_num.specs.Division.{floor_of, ceil_of};
+ghost use Rattle.flex_interval.specs.Fraction.{Fraction, Within, scaled};
+ghost use Rattle.pipeflex_top.specs.Pi.{pi_ends, IsPi};
+
+use flex_interval::Iv;
+
+/// Pi in 2^-56.
+pub fn pi() -> Iv
+    ensures value { result ≡ pi_ends }
+    ensures lo { result.lo ≡ floor_of (pos (314159265358979323846 * 2 ^ 56)) (pos (10 ^ 20)) }
+    ensures hi { result.hi ≡ ceil_of (pos (314159265358979323847 * 2 ^ 56)) (pos (10 ^ 20)) }
+    ensures within { (x : Fraction) → IsPi x → Within result (scaled x (pos (2 ^ 56)) (pos 1)) }
+{
+    Iv {
+        lo: 226_375_608_064_910_088,
+        hi: 226_375_608_064_910_089,
+    }
+}

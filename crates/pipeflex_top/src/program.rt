@@ -1,0 +1,105 @@
+//! The top call.
+ghost use Rattle.std.specs.Prelude.{◌≡◌, ◌≢◌, ◌⊎◌, ◌≤◌, List, ℕ, IfSome, length};
+ghost use Rattle.flex_io.specs.Fault.{Rose};
+ghost use Rattle.flex_io.specs.Sink.{HasRoom, WritesAll, WritesPart};
+ghost use Rattle.flex_io.specs.declared.Status.{Status};
+ghost use Rattle.pipeflex_top.specs.declared.one_straight.OneStraight.{OneStraight};
+ghost use Rattle.pipeflex_top.specs.Enclosure.{PrintsEnclosures};
+ghost use Rattle.pipeflex_top.specs.OneStraight.{IsTextOf};
+ghost use Rattle.pipeflex_top.specs.Run.{Answers, Decides, IsMembers};
+
+use crate::reply::{Reply, reply_to};
+use flex_io::{Gate, Sink, Source, Status, put_all};
+use std::alloc::Global;
+use std::thread::Threads;
+
+/// Runs the program on the words of its command line, without the program's name, and answers how
+/// it ended. It returns for every input.
+///
+/// The words are tested first. Then the source is read to its end, or to the byte past the limit of
+/// a text. Then the text is judged and the output is built whole, before its first byte is written.
+pub fn run<R: Threads + Sync, S: Source, K: Sink, E: Sink, G: Gate>(
+    rt: &R,
+    alloc: Global,
+    words: &[String],
+    source: &mut S,
+    out: &mut K,
+    err: &mut E,
+    gate: &G,
+) -> Status
+    // The answer to the words and the text was written whole, and the status is the answer's.
+    ensures ended { result ≢ Status.WriteFault → (output message : List ℕ)
+        × Answers words.now (S.left source.old) (S.left source.new) output message result
+        × WritesAll K.held out.old out.new output
+        × WritesAll E.held err.old err.new message }
+
+    // Or a sink failed that didn't tell room enough, and a first part of the answer was written.
+    ensures broke_off { result ≡ Status.WriteFault → (output message : List ℕ) × (meant : Status)
+        × Answers words.now (S.left source.old) (S.left source.new) output message meant
+        × WritesPart K.held out.old out.new output
+        × WritesPart E.held err.old err.new message
+        × ¬ (HasRoom (K.room out.old) (length output) × HasRoom (E.room err.old) (length message)) }
+
+    // Each exact stiffness of the straight lies in the pair that is printed for its member.
+    ensures enclosed { result ≡ Status.Done → IfSome (S.left source.old) (λ text.
+        (m : OneStraight) → IsTextOf text m → PrintsEnclosures m) }
+
+    // Wrong words leave the source unread.
+    ensures unread { ¬ IsMembers words.now → source.new ≡ source.old }
+
+    // A fault has its status only where its count rose. No count falls.
+    ensures read_fault { result ≡ Status.ReadFault
+        → Rose (S.faults source.old) (S.faults source.new) }
+    ensures write_fault { result ≡ Status.WriteFault
+        → Rose (K.faults out.old) (K.faults out.new) ⊎ Rose (E.faults err.old) (E.faults err.new) }
+    ensures source_counted { S.faults source.old ≤ S.faults source.new }
+    ensures out_counted { K.faults out.old ≤ K.faults out.new }
+    ensures err_counted { E.faults err.old ≤ E.faults err.new }
+
+    // Where no count rose, the words and the text decide how it ends, but for want of memory.
+    ensures wrong_words { ¬ IsMembers words.now
+        → ¬ Rose (K.faults out.old) (K.faults out.new)
+        → ¬ Rose (E.faults err.old) (E.faults err.new)
+        → result ≡ Status.Usage }
+    ensures decided { IsMembers words.now
+        → ¬ Rose (S.faults source.old) (S.faults source.new)
+        → ¬ Rose (K.faults out.old) (K.faults out.new)
+        → ¬ Rose (E.faults err.old) (E.faults err.new)
+        → IfSome (S.left source.old) (Decides result) }
+{
+    let reply = reply_to(alloc, words, source);
+    deliver(&reply, out, err)
+}
+
+// Writes a reply, and answers its status or that a sink failed.
+fn deliver<K: Sink, E: Sink>(reply: &Reply, out: &mut K, err: &mut E) -> Status
+    requires { reply.now.status ≢ Status.WriteFault }
+    ensures status { result ≢ Status.WriteFault → result ≡ reply.now.status }
+
+    // All of it is written, or a first part where a sink failed that didn't tell room enough.
+    ensures out_whole { result ≢ Status.WriteFault
+        → WritesAll K.held out.old out.new reply.now.output.items }
+    ensures err_whole { result ≢ Status.WriteFault
+        → WritesAll E.held err.old err.new reply.now.message.now }
+    ensures out_part { WritesPart K.held out.old out.new reply.now.output.items }
+    ensures err_part { WritesPart E.held err.old err.new reply.now.message.now }
+    ensures room { HasRoom (K.room out.old) (length reply.now.output.items)
+        → HasRoom (E.room err.old) (length reply.now.message.now)
+        → result ≢ Status.WriteFault }
+
+    ensures write_fault { result ≡ Status.WriteFault
+        → Rose (K.faults out.old) (K.faults out.new) ⊎ Rose (E.faults err.old) (E.faults err.new) }
+    ensures out_counted { K.faults out.old ≤ K.faults out.new }
+    ensures err_counted { E.faults err.old ≤ E.faults err.new }
+{
+    if put_all(out, &reply.output).is_err() {
+        return Status::WriteFault;
+    }
+    if put_all(err, reply.message).is_err() {
+        return Status::WriteFault;
+    }
+    reply.status
+}
+
+#[cfg(test)]
+mod tests;

@@ -1,0 +1,48 @@
+//! Rising lists: sets of numbers kept in order.
+#![tactic(auto)]
+
+ghost use Rattle.std.specs.Prelude.{◌≡◌, ◌<◌, ◌⊎◌, ◌↔◌, ℕ, length, slice_index, Contains, OnOk, MatchOption};
+ghost use Rattle.rising_list.specs.Rising.{IsRising};
+
+use std::alloc::AllocError;
+
+/// Puts a number into a rising list, where it is not there already.
+pub fn insert_rising(list: &mut Vec<u32>, number: u32) -> Result<(), AllocError>
+    requires { IsRising list.old.items }
+    ensures rising { OnOk result (IsRising list.new.items) }
+    ensures members { OnOk result ((x : ℕ) → Contains list.new.items x ↔ (Contains list.old.items x ⊎ (x ≡ number))) }
+{
+    if let Err(place) = list.binary_search(&number) {
+        list.insert(place, number)?;
+    }
+    Ok(())
+}
+
+/// The place of a number in a rising list.
+pub fn find_rising(list: &[u32], number: u32) -> Option<usize>
+    requires { IsRising list.now }
+    ensures { MatchOption result
+        (Contains list.now number → ⊥)
+        (λ place. (place < length list.now) × (slice_index list.now place ≡ number)) }
+{
+    list.binary_search(&number).ok()
+}
+
+#[cfg(test)]
+mod tests {
+    use super::*;
+    use std::test::Fail;
+
+    #[test]
+    fn keeps_each_number_once(rt: HostRuntime) -> Result<(), Fail> {
+        let mut list = Vec::new(rt.alloc());
+        for number in [5, 2, 9, 2, 5] {
+            insert_rising(&mut list, number)?;
+        }
+        assert_eq!(rt; list.as_slice(), [2, 5, 9].as_slice());
+        for (number, want) in [(2, Some(0)), (9, Some(2)), (4, None)] {
+            assert_eq!(rt; find_rising(&list, number), want, "at {number}");
+        }
+        Ok(())
+    }
+}

@@ -1,0 +1,5 @@
+pub mod BlockLemmas
+pub mod StorageLemmas
+pub mod AddLemmas
+pub mod LinkLemmas
+pub mod NewLemmas

@@ -1,0 +1,119 @@
+-- Lists of nodes, as pairs are put in.
+use Rattle.rising_list.proofs.ListsLemmas.{contents-read}
+use Rattle.rising_list.specs.Lists.{contents, list_of}
+use Rattle.std.proofs.Common.{◌≡◌, ℕ, ◌<◌, List, [], ◌∷◌, ◌++◌, length, get_or, set, Contains, ◌⊎◌, inl, inr, ◌↔◌, ◌∙◌, sym, ap, refl, arith, subst, Vec, Global, Result, Ok, Err, OnOk}
+use Rattle.std.proofs.lemmas.Bool.{cases_eq}
+use Rattle.std.proofs.lemmas.List.{get_or-set_same, get_or-set_other, length-map, length-set, map-set}
+use Rattle.std.proofs.lemmas.List.Elements.{Contains-append_left, Contains-append_right, Contains-append_cases}
+use Rattle.rising_list.specs.Rising.{IsRising}
+use Rattle.sym_blocks.specs.Storage.{ListsNode, LinksLists}
+
+-- two facts of an Ok
+pub on_ok_both : {T E P Q R : Type 0} (r : Result T E) → OnOk r P → OnOk r Q → (P → Q → R) → OnOk r R
+on_ok_both (Ok x) p q f = f p q
+on_ok_both (Err e) p q f = tt
+
+-- one list is written
+pub ListsNode-set : (vs : List (Vec ℕ Global)) (n k : ℕ) (old new : Vec ℕ Global) → n < length vs → old ≡ get_or vs n old → ((a : ℕ) → IsRising (list_of (contents vs) a)) → IsRising new.items → ((b : ℕ) → Contains new.items b ↔ (Contains old.items b ⊎ (b ≡ k))) → ListsNode (contents vs) (contents (set vs n new)) n k
+ListsNode-set vs n k old new lt is up new-up members =
+    let items = λ (v : Vec ℕ Global). v.items in
+    let whole = map-set items vs n new in
+    let lists = contents vs in
+    let in' : n < length lists = omega (arith, lt, length-map vs items) in
+    let here = get_or-set_same lists n new.items [] in' in
+    let P : List (List ℕ) → Type 0 = λ ls. ListsNode lists ls n k in
+    subst P (sym whole)
+    record {
+      nodes = length-set lists n new.items;
+      rising = λ a.
+          elim (cases_eq a n) [
+            | inl e ↦ (let Q : ℕ → Type 0 = λ x. IsRising (list_of (set lists n new.items) x) in subst Q (sym e) (subst IsRising (sym here) new-up))
+            | inr apart ↦ subst IsRising (sym (get_or-set_other lists n a new.items [] apart)) (up a)
+          ];
+      members = λ a b.
+          elim (cases_eq a n) [
+            | inl e ↦
+                (let Q : ℕ → Type 0 = λ x. Contains (list_of (set lists n new.items) x) b ↔ (Contains (list_of lists x) b ⊎ ((x ≡ n) × (b ≡ k))) in
+                subst Q (sym e)
+                (let R : List ℕ → Type 0 = λ xs. Contains xs b ↔ (Contains (list_of lists n) b ⊎ ((n ≡ n) × (b ≡ k))) in
+                subst R (sym here)
+                (let S : List ℕ → Type 0 = λ xs. Contains new.items b ↔ (Contains xs b ⊎ ((n ≡ n) × (b ≡ k))) in
+                subst S (sym (contents-read vs n old lt is)) (
+                  λ h. elim ((members b).0 h) [ inl g ↦ inl g | inr g ↦ inr (refl, g) ],
+                  λ h. (members b).1 (elim h [ inl g ↦ inl g | inr (_, g) ↦ inr g ]),
+                ))))
+            | inr apart ↦
+                (let R : List ℕ → Type 0 = λ xs. Contains xs b ↔ (Contains (list_of lists a) b ⊎ ((a ≡ n) × (b ≡ k))) in
+                subst R (sym (get_or-set_other lists n a new.items [] apart))
+                (λ h. inl h, λ h. elim h [ inl g ↦ g | inr (e, _) ↦ absurd (apart e) ]))
+          ];
+    }
+
+-- a pair is listed alone
+Contains-one : (a b n k : ℕ) → Contains {X = ℕ × ℕ} ((n, k) ∷ []) (a, b) ↔ ((a ≡ n) × (b ≡ k))
+Contains-one a b n k = (
+  λ (i, lt, is).
+      let first : i ≡ 0 = omega arith in
+      let pair : ℕ × ℕ = (n, k) in
+      let other : ℕ × ℕ = (a, b) in
+      let P : ℕ → Type 0 = λ x. get_or (pair ∷ []) x other ≡ other in
+      let is' : pair ≡ other = subst P first is in
+      (sym (ap (λ (p : ℕ × ℕ). p.0) is'), sym (ap (λ (p : ℕ × ℕ). p.1) is')),
+  λ (e, f). (0, omega arith, cc),
+)
+
+pub LinksLists-both : (a b c : List (List ℕ)) (n k : ℕ) → ListsNode a b n k → ListsNode b c k n → LinksLists a c ((n, k) ∷ [])
+LinksLists-both a b c n k f g =
+    record {
+      nodes = g.nodes ∙ f.nodes;
+      rising = g.rising;
+      members = λ x y. (
+        λ h.
+            elim ((g.members x y).0 h) [
+              | inl h' ↦ elim ((f.members x y).0 h') [ inl old ↦ inl old | inr e ↦ inr (inl ((Contains-one x y n k).1 e)) ]
+              | inr (e, e') ↦ inr (inr ((Contains-one y x n k).1 (e', e)))
+            ],
+        λ h.
+            (g.members x y).1
+            (elim h [
+              | inl old ↦ inl ((f.members x y).1 (inl old))
+              | inr (inl one) ↦ inl ((f.members x y).1 (inr ((Contains-one x y n k).0 one)))
+              | inr (inr one) ↦ (let e = (Contains-one y x n k).0 one in inr (e.1, e.0))
+            ]),
+      );
+    }
+
+pub LinksLists-append : (a b c : List (List ℕ)) (ps qs : List (ℕ × ℕ)) → LinksLists a b ps → LinksLists b c qs → LinksLists a c (ps ++ qs)
+LinksLists-append a b c ps qs f g =
+    record {
+      nodes = g.nodes ∙ f.nodes;
+      rising = g.rising;
+      members = λ x y. (
+        λ h.
+            elim ((g.members x y).0 h) [
+              | inl h' ↦
+                  elim ((f.members x y).0 h') [
+                    | inl old ↦ inl old
+                    | inr (inl p) ↦ inr (inl (Contains-append_left ps qs (x, y) p))
+                    | inr (inr p) ↦ inr (inr (Contains-append_left ps qs (y, x) p))
+                  ]
+              | inr (inl q) ↦ inr (inl (Contains-append_right ps qs (x, y) q))
+              | inr (inr q) ↦ inr (inr (Contains-append_right ps qs (y, x) q))
+            ],
+        λ h.
+            (g.members x y).1
+            (elim h [
+              | inl old ↦ inl ((f.members x y).1 (inl old))
+              | inr (inl one) ↦ elim (Contains-append_cases ps qs (x, y) one) [ inl p ↦ inl ((f.members x y).1 (inr (inl p))) | inr q ↦ inr (inl q) ]
+              | inr (inr one) ↦ elim (Contains-append_cases ps qs (y, x) one) [ inl p ↦ inl ((f.members x y).1 (inr (inr p))) | inr q ↦ inr (inr q) ]
+            ]),
+      );
+    }
+
+pub LinksLists-none : (a : List (List ℕ)) → ((n : ℕ) → IsRising (list_of a n)) → LinksLists a a []
+LinksLists-none a up =
+    record {
+      nodes = refl;
+      rising = up;
+      members = λ x y. (λ h. inl h, λ h. elim h [ inl old ↦ old | inr (inl (i, lt, is)) ↦ absurd (omega arith) | inr (inr (i, lt, is)) ↦ absurd (omega arith) ]);
+    }

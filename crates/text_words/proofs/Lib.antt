@@ -1,0 +1,4 @@
+pub mod FieldLemmas
+mod LineLemmas
+mod NameLemmas
+pub mod NumberLemmas

@@ -1,0 +1,4 @@
+-- The lines and fields of a text, names and numbers.
+pub mod Fields
+pub mod Names
+pub mod Numbers

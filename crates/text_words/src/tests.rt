@@ -1,0 +1,64 @@
+use super::*;
+use std::test::Fail;
+
+#[test]
+fn reads_numbers(rt: HostRuntime) {
+    let rows: [(&[u8], Result<i64, NumberFault>); 13] = [
+        (b"0", Ok(0)),
+        (b"7", Ok(7)),
+        (b"-7", Ok(-7)),
+        (b"999999999999999999", Ok(999_999_999_999_999_999)),
+        (b"-999999999999999999", Ok(-999_999_999_999_999_999)),
+        (b"1000000000000000000", Err(NumberFault::TooLong)),
+        (b"-1000000000000000000", Err(NumberFault::TooLong)),
+        (b"", Err(NumberFault::NotANumber)),
+        (b"-", Err(NumberFault::NotANumber)),
+        (b"-0", Err(NumberFault::NotANumber)),
+        (b"0000000000000000000001", Err(NumberFault::NotANumber)),
+        (b"+1", Err(NumberFault::NotANumber)),
+        (b"1x", Err(NumberFault::NotANumber)),
+    ];
+    for (word, want) in rows {
+        assert_eq!(rt; number(word), want);
+    }
+}
+
+#[test]
+fn writes_lines(rt: HostRuntime) -> Result<(), Fail> {
+    let mut out = Vec::new(rt.alloc());
+    push_line(&mut out, &[b"end"])?;
+    push_line(&mut out, &[b"node", b"a", b"-1"])?;
+    assert_eq!(rt; out.as_slice(), b"end\nnode a -1\n".as_slice());
+    Ok(())
+}
+
+#[test]
+fn tells_names(rt: HostRuntime) {
+    let rows: [(&[u8], bool); 8] = [
+        (b"a", true),
+        (b"-x", true),
+        (b"A.b_c-9", true),
+        (b"abcdefghijklmnop", true),
+        (b"abcdefghijklmnopq", false),
+        (b"", false),
+        (b"-", false),
+        (b"a b", false),
+    ];
+    for (bytes, is_name) in rows {
+        match Name::new(bytes) {
+            Some(name) => assert!(rt; is_name && name.bytes() == bytes && name == name),
+            None => assert!(rt; !is_name),
+        }
+    }
+}
+
+#[test]
+fn cuts_lines(rt: HostRuntime) {
+    let rest: &[u8] = b"b\n";
+    assert_eq!(rt; cut_line(b"a\nb\n"), (b"a".as_slice(), Some(rest)));
+    assert_eq!(rt; cut_line(b"b"), (b"b".as_slice(), None));
+    assert_eq!(rt;
+        split_once(b"k=v", b'='),
+        Some((b"k".as_slice(), b"v".as_slice()))
+    );
+}
