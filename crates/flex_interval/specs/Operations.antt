@@ -40,7 +40,7 @@ abbrev pub product_of : ℤ → ℤ → Result ℤ IvFault
 product_of x y = small_of (x *ℤ y)
 
 -- the number v alone
-unfoldable pub point_of : ℤ → Ends
+abbrev pub point_of : ℤ → Ends
 point_of v = ends v v
 
 unfoldable pub neg_of : Ends → Ends

@@ -23,7 +23,7 @@ impl Model for Iv {
 }
 
 /// The interval of `v` alone.
-#[tactic(auto, unfolding(crate::specs::Operations::point_of, crate::specs::Fraction::whole))]
+#[tactic(auto, unfolding(crate::specs::Fraction::whole))]
 pub fn point(v: i128) -> Iv
     requires { unsigned_abs v < 2 ^ 126 }
     ensures value { result ≡ point_of v }
