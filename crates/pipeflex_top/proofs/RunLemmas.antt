@@ -1,5 +1,5 @@
 -- What a text is, of which only the bytes up to the one past the limit were read.
-use Rattle.std.proofs.Common.{◌≡◌, ◌≢◌, ℕ, ◌+◌, ◌≤◌, ◌⊎◌, List, [], ◌∷◌, ◌++◌, Option, None, Some, IfSome, String, Global, arith, refl, sym, ap, subst, ◌∙◌, inl, inr, length, take, drop, take-append-drop, length-take, take_all, min}
+use Rattle.std.proofs.Common.{◌≡◌, ◌≢◌, ℕ, List, ◌++◌, Option, None, Some, IfSome, String, Global, arith, refl, sym, ap, subst, ◌∙◌, inl, inr, length, take, drop, take-append-drop, length-take, take_all}
 use Rattle.std.proofs.lemmas.List.{append_cancel_left}
 use Rattle.std.specs.Io.KnownBytes.{Consumes}
 use Rattle.flex_io.specs.declared.outcome.Status.{Status}
@@ -9,7 +9,7 @@ use Rattle.pipeflex_top.specs.declared.one_straight.Refusal.{Refusal}
 use Rattle.pipeflex_top.specs.declared.one_straight.Refusal.TheVariants.{TooLong, Header, Unbuilt}
 use Rattle.pipeflex_top.specs.Enclosure.{PrintsEnclosures}
 use Rattle.pipeflex_top.specs.OneStraight.{IsTextOf}
-use Rattle.pipeflex_top.specs.Refusal.{IsWithinLimit, HasHeader, IsRefused}
+use Rattle.pipeflex_top.specs.Refusal.{IsWithinLimit, IsRefused}
 use Rattle.pipeflex_top.proofs.LengthLemmas.{written_short}
 use Rattle.pipeflex_top.proofs.ModelLemmas.{not_refused, one_model}
 use Rattle.pipeflex_top.specs.Run.{Answers, Decides, IsMembers, ReadsText}

@@ -1,5 +1,5 @@
 -- The exact stiffnesses of a straight, and that the pairs of its table hold them.
-use Rattle.std.specs.Prelude.{ℤ, pos, ◌+ℤ◌, ◌*ℤ◌, List, [], ◌∷◌, IfOk}
+use Rattle.std.specs.Prelude.{pos, ◌+ℤ◌, ◌*ℤ◌, List, [], ◌∷◌, IfOk}
 use Rattle.std.specs.List.{AllZip}
 use Rattle.flex_interval.specs.Fraction.{Fraction, Within}
 use Rattle.pipeflex_top.specs.declared.one_straight.OneStraight.{OneStraight}

@@ -2,3 +2,4 @@ pub mod FieldLemmas
 mod LineLemmas
 mod NameLemmas
 pub mod NumberLemmas
+mod WordLemmas

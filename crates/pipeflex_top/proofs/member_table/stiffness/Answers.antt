@@ -1,11 +1,11 @@
-use Rattle.std.proofs.Common.{◌≡◌, ℤ, pos, Result, Ok, Err, IfOk, rules, arith, subst, w64, FitsSigned, to_z-of_z}
+use Rattle.std.proofs.Common.{pos, Result, Ok, Err, IfOk, rules, arith, w64, FitsSigned, to_z-of_z}
 use Rattle.std.proofs.lemmas.Int.{ints}
 use Rattle.std.specs.List.{AllZip}
 use Rattle.flex_interval.specs.declared.fault.Wide.{Wide}
 use Rattle.flex_interval.specs.Fraction.{Fraction, Within}
 use Rattle.pipeflex_top.specs.declared.one_straight.OneStraight.{OneStraight}
 use Rattle.pipeflex_top.specs.declared.stiffness.Kappas.{Kappas}
-use Rattle.pipeflex_top.specs.Enclosure.{PrintsEnclosures, exact_members}
+use Rattle.pipeflex_top.specs.Enclosure.{exact_members}
 use Rattle.pipeflex_top.specs.MemberTable.{members_of}
 use Rattle.pipeflex_top.specs.OneStraight.{span_of}
 use Rattle.pipeflex_top.specs.Pi.{pi_ends}

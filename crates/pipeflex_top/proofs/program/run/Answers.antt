@@ -1,5 +1,4 @@
-use Rattle.std.proofs.Common.{◌≡◌, ◌≢◌, sym, subst, ap, ◌∙◌, List, ℕ, map, string_bytes, inl, inr}
-use Rattle.flex_io.specs.Fault.{Rose}
+use Rattle.std.proofs.Common.{◌≡◌, ◌≢◌, sym, subst, ◌∙◌, inl, inr}
 use Rattle.flex_io.specs.declared.outcome.Status.{Status}
 use Rattle.flex_io.specs.declared.outcome.Status.TheVariants.{Done, ReadFault, WriteFault}
 use Rattle.pipeflex_top.specs.Run.{Answers}

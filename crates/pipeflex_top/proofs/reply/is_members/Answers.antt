@@ -1,4 +1,4 @@
-use Rattle.std.proofs.Common.{◌≡◌, ℕ, ◌<◌, ◌≤◌, List, [], ◌∷◌, rules, arith, refl, sym, ap, ◌∙◌, length, get_or, map, string_bytes, codes}
+use Rattle.std.proofs.Common.{◌≡◌, List, [], ◌∷◌, arith, sym, ap, ◌∙◌, length, get_or, map, string_bytes, codes}
 use Rattle.std.proofs.lemmas.Slice.Eq.{bytes_eq-Decides}
 use Rattle.pipeflex_top.proofs.reply.is_members.Goals as goal
 

@@ -1,4 +1,4 @@
-use Rattle.std.proofs.Common.{◌≡◌, List, ℕ, rules, refl, sym, ap, subst, ◌∙◌, Some}
+use Rattle.std.proofs.Common.{rules, refl, subst, ◌∙◌}
 use Rattle.pipeflex_top.specs.Refusal.{IsRefused}
 use Rattle.pipeflex_top.specs.OneStraight.{IsTextOf}
 use Rattle.pipeflex_top.proofs.RunLemmas.{ReadsText-taken, IsRefused-taken, IsTextOf-taken, one_form}
