@@ -24,13 +24,13 @@ place_of-is (m ∷ order) node zero inside e =
     (omega (arith, here), ap (slice_index (m ∷ order)) here ∙ e)
 place_of-is (m ∷ order) node (suc k) inside e =
     elim (cases_eq m node) [
-      inl same ↦
-        let here = first-here m node (place_of order node) same in
-        (omega (arith, here), ap (slice_index (m ∷ order)) here ∙ same)
-    | inr ne ↦
-        let later = first-later m node (place_of order node) ne in
-        let rest = place_of-is order node k (omega arith) e in
-        (omega (arith, later, rest.0), ap (slice_index (m ∷ order)) later ∙ rest.1)
+      | inl same ↦
+          let here = first-here m node (place_of order node) same in
+          (omega (arith, here), ap (slice_index (m ∷ order)) here ∙ same)
+      | inr ne ↦
+          let later = first-later m node (place_of order node) ne in
+          let rest = place_of-is order node k (omega arith) e in
+          (omega (arith, later, rest.0), ap (slice_index (m ∷ order)) later ∙ rest.1)
     ]
 
 -- every node of an order has its place there
@@ -94,8 +94,8 @@ pub contained_or_not : (xs : List ℕ) (x : ℕ) → Contains xs x ⊎ (Contains
 contained_or_not [] x = inr (λ found. absurd (omega (arith, found.1)))
 contained_or_not (y ∷ xs) x =
     elim (cases_eq y x) [
-      inl e ↦ inl (0, omega arith, e)
-    | inr ne ↦ elim (contained_or_not xs x) [ inl found ↦ inl (suc found.0, omega (arith, found.1), found.2) | inr none ↦ inr (in_neither y xs x ne none) ]
+      | inl e ↦ inl (0, omega arith, e)
+      | inr ne ↦ elim (contained_or_not xs x) [ inl found ↦ inl (suc found.0, omega (arith, found.1), found.2) | inr none ↦ inr (in_neither y xs x ne none) ]
     ]
   where
     in_neither : (y : ℕ) (xs : List ℕ) (x : ℕ) → y ≢ x → (Contains xs x → ⊥) → Contains (y ∷ xs) x → ⊥
@@ -111,8 +111,8 @@ sum-pattern nodes n f spread outside =
     (λ s h. column-below nodes n s spread h)
     (λ s t hs ht e. column-apart nodes n s t spread hs ht e)
     (λ j h. elim (contained_or_not nodes (j / 6)) [
-      inl found ↦ inr (6 * found.0 + j % 6, omega (arith, found.1), column_of nodes j found.0 found.1 (get_or_default nodes found.0 0 (j / 6) found.1 ∙ found.2))
-    | inr none ↦ inl (outside j h none)
+      | inl found ↦ inr (6 * found.0 + j % 6, omega (arith, found.1), column_of nodes j found.0 found.1 (get_or_default nodes found.0 0 (j / 6) found.1 ∙ found.2))
+      | inr none ↦ inl (outside j h none)
     ])
   where
     column_of : (nodes : List ℕ) (j k : ℕ) → k < length nodes → slice_index nodes k ≡ j / 6 → freedom_at nodes (6 * k + j % 6) ≡ j
@@ -127,10 +127,10 @@ spread-rising nodes n rising below =
     record {
       in_range = λ k inside. below (slice_index nodes k) (k, inside, get_or_default nodes k (slice_index nodes k) 0 inside);
       apart = λ k l pk pl e.
-        elim (cases_lt k l) [
-          inl lt ↦ absurd (omega (arith, rising k l 0 lt pl, e))
-        | inr ge ↦ elim (cases_lt l k) [ inl lt ↦ absurd (omega (arith, rising l k 0 lt pk, e)) | inr le ↦ omega arith ]
-        ];
+          elim (cases_lt k l) [
+            | inl lt ↦ absurd (omega (arith, rising k l 0 lt pl, e))
+            | inr ge ↦ elim (cases_lt l k) [ inl lt ↦ absurd (omega (arith, rising l k 0 lt pk, e)) | inr le ↦ omega arith ]
+          ];
     }
 
 rising-at_least : (nodes : List ℕ) (k : ℕ) → IsRising nodes → k < length nodes → k ≤ slice_index nodes k
@@ -142,4 +142,3 @@ length-rising [] n rising below = omega arith
 length-rising (m ∷ nodes) n rising below =
     let last = below (slice_index (m ∷ nodes) (length nodes)) (length nodes, omega arith, get_or_default (m ∷ nodes) (length nodes) (slice_index (m ∷ nodes) (length nodes)) 0 (omega arith)) in
     omega (arith, last, rising-at_least (m ∷ nodes) (length nodes) rising (omega arith))
-

@@ -4,10 +4,9 @@
 ghost use Rattle.std.specs.Prelude.{◌≡◌, IfOk};
 ghost use Rattle.factor_data.specs.Columns.{contents};
 
+use rising_list::find_rising;
 use std::alloc::{AllocError, Global};
 use std::marker::Model;
-
-use rising_list::find_rising;
 
 /// Memory ran out.
 pub type NoMemory = AllocError;
@@ -40,11 +39,20 @@ impl Factor {
         requires { IsFactor (columns_of order.items (contents rows.items) (contents values.items)) }
         ensures { result ≡ columns_of order.items (contents rows.items) (contents values.items) }
     {
-        Factor { order, rows, values }
+        Factor {
+            order,
+            rows,
+            values,
+        }
     }
 
     /// The factor with copies of these columns.
-    pub fn of_lists(alloc: Global, order: &[u32], rows: &[Vec<u32>], values: &[Vec<i64>]) -> Result<Factor, NoMemory>
+    pub fn of_lists(
+        alloc: Global,
+        order: &[u32],
+        rows: &[Vec<u32>],
+        values: &[Vec<i64>],
+    ) -> Result<Factor, NoMemory>
         requires { IsFactor (columns_of order.now (contents rows.now) (contents values.now)) }
         ensures { IfOk result (λ f. f ≡ columns_of order.now (contents rows.now) (contents values.now)) }
     {

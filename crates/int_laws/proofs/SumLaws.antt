@@ -107,16 +107,16 @@ pub sum_below-reindexed : (m n : ℕ) (place : ℕ → ℕ) (f : ℕ → ℤ) �
     sum_below m (λ s. f (place s)) ≡ sum_below n f
 sum_below-reindexed m n place f inside apart found =
     let rows = sum_below-same m (λ s. sum_below n (λ j. picked place f s j)) (λ s. f (place s))
-        (λ s h. sum_below-one n (place s) (λ j. picked place f s j) (inside s h)
-            (λ j _ other. picked-elsewhere place f s j (λ e. other (sym e)))
-            ∙ picked-here place f s (place s) refl) in
+    (λ s h. sum_below-one n (place s) (λ j. picked place f s j) (inside s h)
+    (λ j _ other. picked-elsewhere place f s j (λ e. other (sym e)))
+    ∙ picked-here place f s (place s) refl) in
     let columns = sum_below-same n (λ j. sum_below m (λ s. picked place f s j)) f
-        (λ j h. elim (found j h) [
-            inl none ↦ sum_below-zero m (λ s. picked place f s j) (λ s _. picked-nothing place f s j none) ∙ sym none
-          | inr at ↦ sum_below-one m at.0 (λ s. picked place f s j) at.1
-                (λ s k other. picked-elsewhere place f s j (λ e. other (apart s at.0 k at.1 (e ∙ sym at.2))))
-                ∙ picked-here place f at.0 j at.2
-        ]) in
+    (λ j h. elim (found j h) [
+      | inl none ↦ sum_below-zero m (λ s. picked place f s j) (λ s _. picked-nothing place f s j none) ∙ sym none
+      | inr at ↦ sum_below-one m at.0 (λ s. picked place f s j) at.1
+          (λ s k other. picked-elsewhere place f s j (λ e. other (apart s at.0 k at.1 (e ∙ sym at.2))))
+          ∙ picked-here place f at.0 j at.2
+    ]) in
     sym rows ∙ sum_below-swap m n (λ s j. picked place f s j) ∙ columns
 
 -- n terms of at most 1
@@ -131,13 +131,13 @@ pub sum_below-lt_count : (n k : ℕ) (f : ℕ → ℤ) → k < n → ((i : ℕ) 
 sum_below-lt_count zero k f inside one none = absurd (omega arith)
 sum_below-lt_count (suc n) k f inside one none =
     elim (cases_eq k n) [
-      inl e ↦
-        let before = sum_below-le_count n f (λ i h. one i (omega arith)) in
-        let there = ap f e in
-        omega (arith, int_sums, before, there, none)
-    | inr ne ↦
-        let before = sum_below-lt_count n k f (omega arith) (λ i h. one i (omega arith)) none in
-        omega (arith, int_sums, before, one n (omega arith))
+      | inl e ↦
+          let before = sum_below-le_count n f (λ i h. one i (omega arith)) in
+          let there = ap f e in
+          omega (arith, int_sums, before, there, none)
+      | inr ne ↦
+          let before = sum_below-lt_count n k f (omega arith) (λ i h. one i (omega arith)) none in
+          omega (arith, int_sums, before, one n (omega arith))
     ]
 
 -- more terms that are never negative
@@ -145,8 +145,8 @@ pub sum_below-le_more : (m n : ℕ) (f : ℕ → ℤ) → m ≤ n → ((i : ℕ)
 sum_below-le_more m zero f h up = let e : m ≡ 0 = omega arith in let same = ap (λ (k : ℕ). sum_below k f) e in omega (arith, int_sums, same)
 sum_below-le_more m (suc n) f h up =
     elim (cases_eq m (suc n)) [
-      inl e ↦ let same = ap (λ (k : ℕ). sum_below k f) e in omega (arith, int_sums, same)
-    | inr ne ↦
-        let before = sum_below-le_more m n f (omega arith) (λ i k. up i (omega arith)) in
-        omega (arith, int_sums, before, up n (omega arith))
+      | inl e ↦ let same = ap (λ (k : ℕ). sum_below k f) e in omega (arith, int_sums, same)
+      | inr ne ↦
+          let before = sum_below-le_more m n f (omega arith) (λ i k. up i (omega arith)) in
+          omega (arith, int_sums, before, up n (omega arith))
     ]

@@ -3,10 +3,9 @@
 
 use flex_io::{Idle, Status, StdSink, StdSource, code};
 use pipeflex_top::run;
-use std::env;
-use std::io;
 use std::io::ErrorKind;
 use std::process::ExitCode;
+use std::{env, io};
 
 fn main(rt: HostRuntime) -> ExitCode {
     let words = match words(&rt) {
