@@ -2,4 +2,3 @@ pub mod FieldLemmas
 mod LineLemmas
 mod NameLemmas
 pub mod NumberLemmas
-mod WordLemmas

@@ -2,4 +2,3 @@
 pub mod Fields
 pub mod Names
 pub mod Numbers
-pub mod Words

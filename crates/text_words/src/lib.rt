@@ -4,12 +4,10 @@
 mod fields;
 mod names;
 mod numbers;
-mod words;
 
 pub use fields::{cut_line, push_line, split_once};
 pub use names::Name;
 pub use numbers::{NumberFault, number};
-pub use words::{Words, find_words, is_text};
 
 #[cfg(test)]
 mod tests;

@@ -62,31 +62,3 @@ fn cuts_lines(rt: HostRuntime) {
         Some((b"k".as_slice(), b"v".as_slice()))
     );
 }
-
-#[test]
-fn finds_words(rt: HostRuntime) -> Result<(), Fail> {
-    let line = b" node\ta  0 -1 # 5";
-    let mut found = Vec::new(rt.alloc());
-    find_words(&mut found, line, 9)?;
-    assert_eq!(rt; found.len(), 4);
-    assert_eq!(rt;
-        (found[0], found[3]),
-        (b"node".as_slice(), b"-1".as_slice())
-    );
-    find_words(&mut found, line, 2)?;
-    assert_eq!(rt; found.len(), 2);
-    find_words(&mut found, b" \t# a", 2)?;
-    assert_eq!(rt; found.len(), 0);
-    let mut words = Words::new(b"end#");
-    assert_eq!(rt; words.next_word(), Some(b"end".as_slice()));
-    assert_eq!(rt; words.next_word(), None);
-    Ok(())
-}
-
-#[test]
-fn tells_text(rt: HostRuntime) {
-    assert!(rt; is_text(b" ~\t#a"));
-    for byte in [0u8, 10, 13, 31, 127, 128, 255] {
-        assert!(rt; !is_text(&[byte]), "{byte}");
-    }
-}
