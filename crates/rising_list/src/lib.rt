@@ -3,6 +3,7 @@
 
 ghost use Rattle.std.specs.Prelude.{◌≡◌, ◌<◌, ◌⊎◌, ◌↔◌, ℕ, length, slice_index, Contains, OnOk, MatchOption};
 ghost use Rattle.rising_list.specs.Rising.{IsRising};
+ghost use Rattle.rising_list.specs.Lists.{contents, list_of, ListsNumber};
 
 use std::alloc::AllocError;
 
@@ -26,6 +27,15 @@ pub fn find_rising(list: &[u32], number: u32) -> Option<usize>
         (λ place. (place < length list.now) × (slice_index list.now place ≡ number)) }
 {
     list.binary_search(&number).ok()
+}
+
+/// Puts a number into one of some rising lists.
+pub fn list_number(lists: &mut [Vec<u32>], n: u32, k: u32) -> Result<(), AllocError>
+    requires in_range { n < length lists.old }
+    requires rising { (a : ℕ) → IsRising (list_of (contents lists.old) a) }
+    ensures { OnOk result (ListsNumber (contents lists.old) (contents lists.new) n k) }
+{
+    insert_rising(&mut lists[n as usize], k)
 }
 
 #[cfg(test)]

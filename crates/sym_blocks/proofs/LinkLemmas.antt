@@ -6,48 +6,8 @@ use Rattle.std.proofs.lemmas.Bool.{cases_eq}
 use Rattle.std.proofs.lemmas.List.{get_or-set_same, get_or-set_other, length-map, length-set, map-set}
 use Rattle.std.proofs.lemmas.List.Elements.{Contains-append_left, Contains-append_right, Contains-append_cases}
 use Rattle.rising_list.specs.Rising.{IsRising}
-use Rattle.sym_blocks.specs.Storage.{ListsNode, LinksLists}
-
--- two facts of an Ok
-pub on_ok_both : {T E P Q R : Type 0} (r : Result T E) → OnOk r P → OnOk r Q → (P → Q → R) → OnOk r R
-on_ok_both (Ok x) p q f = f p q
-on_ok_both (Err e) p q f = tt
-
--- one list is written
-pub ListsNode-set : (vs : List (Vec ℕ Global)) (n k : ℕ) (old new : Vec ℕ Global) → n < length vs → old ≡ get_or vs n old → ((a : ℕ) → IsRising (list_of (contents vs) a)) → IsRising new.items → ((b : ℕ) → Contains new.items b ↔ (Contains old.items b ⊎ (b ≡ k))) → ListsNode (contents vs) (contents (set vs n new)) n k
-ListsNode-set vs n k old new lt is up new-up members =
-    let items = λ (v : Vec ℕ Global). v.items in
-    let whole = map-set items vs n new in
-    let lists = contents vs in
-    let in' : n < length lists = omega (arith, lt, length-map vs items) in
-    let here = get_or-set_same lists n new.items [] in' in
-    let P : List (List ℕ) → Type 0 = λ ls. ListsNode lists ls n k in
-    subst P (sym whole)
-    record {
-      nodes = length-set lists n new.items;
-      rising = λ a.
-          elim (cases_eq a n) [
-            | inl e ↦ (let Q : ℕ → Type 0 = λ x. IsRising (list_of (set lists n new.items) x) in subst Q (sym e) (subst IsRising (sym here) new-up))
-            | inr apart ↦ subst IsRising (sym (get_or-set_other lists n a new.items [] apart)) (up a)
-          ];
-      members = λ a b.
-          elim (cases_eq a n) [
-            | inl e ↦
-                (let Q : ℕ → Type 0 = λ x. Contains (list_of (set lists n new.items) x) b ↔ (Contains (list_of lists x) b ⊎ ((x ≡ n) × (b ≡ k))) in
-                subst Q (sym e)
-                (let R : List ℕ → Type 0 = λ xs. Contains xs b ↔ (Contains (list_of lists n) b ⊎ ((n ≡ n) × (b ≡ k))) in
-                subst R (sym here)
-                (let S : List ℕ → Type 0 = λ xs. Contains new.items b ↔ (Contains xs b ⊎ ((n ≡ n) × (b ≡ k))) in
-                subst S (sym (contents-read vs n old lt is)) (
-                  λ h. elim ((members b).0 h) [ inl g ↦ inl g | inr g ↦ inr (refl, g) ],
-                  λ h. (members b).1 (elim h [ inl g ↦ inl g | inr (_, g) ↦ inr g ]),
-                ))))
-            | inr apart ↦
-                (let R : List ℕ → Type 0 = λ xs. Contains xs b ↔ (Contains (list_of lists a) b ⊎ ((a ≡ n) × (b ≡ k))) in
-                subst R (sym (get_or-set_other lists n a new.items [] apart))
-                (λ h. inl h, λ h. elim h [ inl g ↦ g | inr (e, _) ↦ absurd (apart e) ]))
-          ];
-    }
+use Rattle.sym_blocks.specs.Storage.{LinksLists}
+use Rattle.rising_list.specs.Lists.{ListsNumber}
 
 -- a pair is listed alone
 Contains-one : (a b n k : ℕ) → Contains {X = ℕ × ℕ} ((n, k) ∷ []) (a, b) ↔ ((a ≡ n) × (b ≡ k))
@@ -62,10 +22,10 @@ Contains-one a b n k = (
   λ (e, f). (0, omega arith, cc),
 )
 
-pub LinksLists-both : (a b c : List (List ℕ)) (n k : ℕ) → ListsNode a b n k → ListsNode b c k n → LinksLists a c ((n, k) ∷ [])
+pub LinksLists-both : (a b c : List (List ℕ)) (n k : ℕ) → ListsNumber a b n k → ListsNumber b c k n → LinksLists a c ((n, k) ∷ [])
 LinksLists-both a b c n k f g =
     record {
-      nodes = g.nodes ∙ f.nodes;
+      nodes = g.count ∙ f.count;
       rising = g.rising;
       members = λ x y. (
         λ h.

@@ -14,12 +14,6 @@ Block = List (List ℤ)
 abbrev pub own_lists_of : ℕ → List (List ℕ)
 own_lists_of nodes = map (λ n. n ∷ []) (range_with_len 0 nodes)
 
--- node k is put into the list of node n, and the lists stay in order
-pub record ListsNode (old new : List (List ℕ)) (n k : ℕ) : Type 0 where
-  pub nodes : length new ≡ length old
-  pub rising : (a : ℕ) → IsRising (list_of new a)
-  pub members : (a b : ℕ) → Contains (list_of new a) b ↔ (Contains (list_of old a) b ⊎ ((a ≡ n) × (b ≡ k)))
-
 -- the nodes of each pair are put into each other's lists, which stay in order
 pub record LinksLists (old new : List (List ℕ)) (pairs : List (ℕ × ℕ)) : Type 0 where
   pub nodes : length new ≡ length old

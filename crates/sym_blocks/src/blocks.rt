@@ -1,10 +1,10 @@
 ghost use Rattle.rising_list.specs.Lists.{contents, list_of};
 ghost use Rattle.std.specs.Prelude.{◌≡◌, ◌∷◌, ◌↔◌, OnOk, ℕ, ◌+◌, ◌*◌, ◌/◌, ◌^◌, ◌<◌, IfOk, Contains, All, ℤ, pos, ◌+ℤ◌, length, slice_index_or, [], replicate};
 ghost use Rattle.rising_list.specs.Rising.{IsRising};
-ghost use Rattle.sym_blocks.specs.Storage.{own_lists_of, zero_block, zero_blocks_of, stored, ListsNode, LinksLists, IsLayout, IsStorage, AddsToStored, AddsBoth};
+ghost use Rattle.sym_blocks.specs.Storage.{own_lists_of, zero_block, zero_blocks_of, stored, LinksLists, IsLayout, IsStorage, AddsToStored, AddsBoth};
 ghost use Rattle.std.specs.Int.RustNames.{unsigned_abs};
 
-use rising_list::{find_rising, insert_rising};
+use rising_list::{find_rising, list_number};
 use std::alloc::{AllocError, Global};
 use std::marker::Model;
 
@@ -112,17 +112,8 @@ fn link(lists: &mut [Vec<u32>], n: u32, k: u32) -> Result<(), AllocError>
     requires rising { (a : ℕ) → IsRising (list_of (contents lists.old) a) }
     ensures { OnOk result (LinksLists (contents lists.old) (contents lists.new) ((n, k) ∷ [])) }
 {
-    list_node(lists, n, k)?;
-    list_node(lists, k, n)
-}
-
-// Puts a node into another's list.
-fn list_node(lists: &mut [Vec<u32>], n: u32, k: u32) -> Result<(), AllocError>
-    requires in_range { n < length lists.old }
-    requires rising { (a : ℕ) → IsRising (list_of (contents lists.old) a) }
-    ensures { OnOk result (ListsNode (contents lists.old) (contents lists.new) n k) }
-{
-    insert_rising(&mut lists[n as usize], k)
+    list_number(lists, n, k)?;
+    list_number(lists, k, n)
 }
 
 // A block of zeros beside each node of each list.

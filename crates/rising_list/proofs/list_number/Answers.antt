@@ -1,6 +1,6 @@
 use Rattle.rising_list.proofs.ListsLemmas.{contents-read}
-use Rattle.sym_blocks.proofs.LinkLemmas.{ListsNode-set, on_ok_both}
-use Rattle.sym_blocks.proofs.blocks.list_node.Goals as goal
+use Rattle.rising_list.proofs.ListsLemmas.{ListsNumber-set, on_ok_both}
+use Rattle.rising_list.proofs.list_number.Goals as goal
 
 pub insert_rising-requires : goal.insert_rising-requires
 insert_rising-requires c =
@@ -11,5 +11,5 @@ pub returns : goal.returns
 returns c =
     on_ok_both c.insert_rising.result c.insert_rising.ensures.rising c.insert_rising.ensures.members
     (λ up members.
-    ListsNode-set c.args.lists.now c.args.n c.args.k c.index-lists-n.result c.insert_rising.new.list c.requires.in_range c.index-lists-n.is c.requires.rising up
+    ListsNumber-set c.args.lists.now c.args.n c.args.k c.index-lists-n.result c.insert_rising.new.list c.requires.in_range c.index-lists-n.is c.requires.rising up
     (λ b. rw (← c.index-lists-n.is) at (members b)))

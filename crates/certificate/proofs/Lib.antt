@@ -1,0 +1,10 @@
+pub mod FormLaws
+pub mod DefinitenessLaw
+pub mod RowSumLemmas
+pub mod ColumnLemmas
+pub mod RowListLemmas
+pub mod PlaceLemmas
+pub mod PatternLemmas
+pub mod ResidualLemmas
+pub mod RowLemmas
+pub mod CheckLemmas

@@ -1,0 +1,16 @@
+use Rattle.std.proofs.Common.{◌≡◌, ◌<◌, ◌^◌, pos, ◌+ℤ◌, length, vec_len}
+use Rattle.std.specs.Vec.{vec_capacity}
+use Rattle.certificate.specs.RowSums.{sizes_total, IsTracked}
+use Rattle.certificate.proofs.row_sums.RowSums.drain.Given as goal
+
+abbrev pub invariant-loop-at : goal.invariant-loop-at
+invariant-loop-at l = record {
+  tracked : IsTracked l.self-inside.sums.items l.self-inside.touched.items (vec_capacity l.self-inside.touched);
+  same : length l.self-inside.sums.items ≡ length l.initial.self-inside.sums.items;
+  small : l.total < 2 ^ 126;
+  whole : pos l.total +ℤ sizes_total l.self-inside.sums.items
+      ≡ pos l.initial.total +ℤ sizes_total l.initial.self-inside.sums.items;
+}
+
+abbrev pub decreases-loop-at : goal.decreases-loop-at
+decreases-loop-at l = vec_len l.self-inside.touched

@@ -1,0 +1,64 @@
+-- What a line of the text makes of the lines before it.
+use Rattle.std.specs.Prelude.{ℕ, ◌==◌, ◌&&◌, Bool, true, false, not, pos, List, length, Option, Some, None, Result, Ok, Err, if◌then◌else◌, codes}
+use Rattle.std.specs.Ordering.{int_eq}
+use Rattle.std.specs.List.{list_all}
+use Rattle.std.specs.Str.{bytes_eq}
+use Rattle.model_types.specs.declared.records.Case.{Case}
+use Rattle.model_types.specs.declared.records.Record.{Record}
+use Rattle.model_types.specs.declared.records.Record.TheVariants as record_of
+use Rattle.model_types.specs.declared.faults.AddFault.{AddFault}
+use Rattle.model_types.specs.declared.faults.AddFault.TheVariants as line_fault
+use Rattle.model_types.specs.Lists.{Lists, no_records, added}
+use Rattle.model_types.specs.Refusals.{refusal}
+use Rattle.model_text.specs.Fields.{◌>>=◌}
+use Rattle.model_text.specs.Records.{record_of_words}
+use Rattle.model_text.specs.Words.{words, word, is_allowed}
+use Rattle.model_text.specs.declared.reader.Reading.{Reading}
+use Rattle.model_text.specs.declared.reader.TextFault.{TextFault}
+use Rattle.model_text.specs.declared.reader.TextFault.TheVariants as text_fault
+
+-- nothing has been read
+abbrev pub start : Reading
+start = record { header = false; draft = no_records }
+
+-- all numbers of a case are 0
+abbrev pub is_at_rest : Case → Bool
+is_at_rest c = int_eq c.gx (pos 0) && int_eq c.gy (pos 0) && int_eq c.gz (pos 0) && not c.hangers && int_eq c.dt (pos 0) && int_eq c.p (pos 0)
+
+-- a case with a load of its own, which isn't read yet
+abbrev pub is_loaded_case : Record → Bool
+is_loaded_case (record_of.Case c) = not (is_at_rest c)
+is_loaded_case _ = false
+
+-- the lists with a record, or the number that refuses it
+abbrev pub judged : Record → Option ℕ → Lists → Result Lists ℕ
+judged r (Some number) m = Err number
+judged r None m = if is_loaded_case r then Err 17 else Ok (added m r)
+
+abbrev pub taken : Lists → Record → Result Lists ℕ
+taken m r = judged r (refusal m r) m
+
+-- the header: `pipeflex 1`
+abbrev pub is_header : List (List ℕ) → Bool
+is_header ws = length ws == 2 && bytes_eq (word ws 0) (codes "pipeflex") && bytes_eq (word ws 1) (codes "1")
+
+-- the lists with the record of these words, or the number that refuses it
+abbrev pub record_taken : Lists → List (List ℕ) → Result Lists ℕ
+record_taken m ws = record_of_words m ws >>= taken m
+
+-- a line of these words: nothing, the header, or a record below it
+abbrev pub after_words : Reading → List (List ℕ) → Result Reading ℕ
+after_words s ws =
+    if length ws == 0 then Ok s else
+    if s.header then (record_taken s.draft ws >>= λ m. Ok (record s { draft = m })) else
+    if is_header ws then Ok (record s { header = true }) else
+    Err 3
+
+-- what has been read after a line, or the number that refuses the line
+abbrev pub after_line : Reading → List ℕ → Result Reading ℕ
+after_line s line = if list_all is_allowed line then after_words s (words line) else Err 2
+
+-- a line's fault, as the text's
+abbrev pub at_line : AddFault → ℕ → TextFault
+at_line (line_fault.Refused number) line = text_fault.Refused number line
+at_line line_fault.NoMemory line = text_fault.NoMemory

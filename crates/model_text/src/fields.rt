@@ -1,0 +1,98 @@
+//! The fields of a record: what a word gives, or the number that refuses it.
+ghost use Rattle.std.specs.Prelude.{◌≡◌, ◌↔◌, pos, IsTrue, IfOk};
+ghost use Rattle.text_words.specs.Names.{IsName};
+ghost use Rattle.model_types.specs.Ranges.{IsIn, IsStiffness, IsDirection};
+ghost use Rattle.model_text.specs.Fields as field;
+ghost use Rattle.model_text.specs.Words.{words};
+
+use crate::words::word;
+use model_types::Name;
+use text_words::{NumberFault, number};
+
+/// Refuses by a number where a test holds.
+pub(crate) fn refuse_if(holds: bool, number: u8) -> Result<(), u8>
+    ensures { result ≡ field.refuse_if holds number }
+{
+    if holds { Err(number) } else { Ok(()) }
+}
+
+/// A name: 7 where the word isn't one.
+pub(crate) fn name_at(word: &[u8]) -> Result<Name, u8>
+    ensures value { result ≡ field.name_at word.now }
+    ensures form { IfOk result IsName }
+{
+    match Name::new(word) {
+        Some(name) => Ok(name),
+        None => Err(7),
+    }
+}
+
+/// A number from `least` to `most`: 6 where the word is no number, and 7 where it has over 18 digits or is out of the range.
+#[tactic(auto, unfolding(crate::specs::Fields::number_in))]
+pub(crate) fn number_in(word: &[u8], least: i64, most: i64) -> Result<i64, u8>
+    ensures value { result ≡ field.number_in (record { least = least; most = most }) word.now }
+    ensures range { IfOk result (IsIn (record { least = least; most = most })) }
+{
+    match number(word) {
+        Ok(n) => { if is_in(n, least, most) { Ok(n) } else { Err(7) } }
+        Err(NumberFault::NotANumber) => Err(6),
+        Err(NumberFault::TooLong) => Err(7),
+    }
+}
+
+fn is_in(n: i64, least: i64, most: i64) -> bool
+    ensures value { result ≡ field.is_in (record { least = least; most = most }) n }
+    ensures fact { IsTrue result ↔ IsIn (record { least = least; most = most }) n }
+{
+    least <= n && n <= most
+}
+
+/// A stiffness, or `None` for the default.
+#[tactic(auto, unfolding(crate::specs::Fields::stiffness_at))]
+pub(crate) fn stiffness_at(word: &[u8]) -> Result<Option<i64>, u8>
+    ensures value { result ≡ field.stiffness_at word.now }
+    ensures range { IfOk result IsStiffness }
+{
+    if word == b"-".as_slice() {
+        return Ok(None);
+    }
+    let k = number_in(word, 1, 2_000_000_000_000)?;
+    Ok(Some(k))
+}
+
+/// Whether a word is 1 and not 0.
+#[tactic(auto, unfolding(crate::specs::Fields::flag_at))]
+pub(crate) fn flag_at(word: &[u8]) -> Result<bool, u8>
+    ensures { result ≡ field.flag_at word.now }
+{
+    let n = number_in(word, 0, 1)?;
+    Ok(n == 1)
+}
+
+/// The parts of a direction.
+#[derive(Clone, Copy)]
+pub(crate) struct Direction {
+    pub(crate) x: i64,
+    pub(crate) y: i64,
+    pub(crate) z: i64,
+}
+
+/// A direction, in the words 3 to 5 of a line: 7 where all its parts are 0.
+#[tactic(auto, unfolding(crate::specs::Fields::direction_of))]
+pub(crate) fn direction_of(line: &[u8]) -> Result<Direction, u8>
+    ensures value { result ≡ field.direction_of (words line.now) }
+    ensures form { IfOk result (λ d. IsDirection d.x d.y d.z) }
+{
+    let x = number_in(word(line, 3), -1_000_000, 1_000_000)?;
+    let y = number_in(word(line, 4), -1_000_000, 1_000_000)?;
+    let z = number_in(word(line, 5), -1_000_000, 1_000_000)?;
+    refuse_if(is_zero(x, y, z), 7)?;
+    Ok(Direction { x, y, z })
+}
+
+fn is_zero(x: i64, y: i64, z: i64) -> bool
+    ensures value { result ≡ field.is_zero x y z }
+    ensures fact { IsTrue result ↔ ((x ≡ pos 0) × (y ≡ pos 0) × (z ≡ pos 0)) }
+{
+    x == 0 && y == 0 && z == 0
+}

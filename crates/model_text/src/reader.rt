@@ -1,0 +1,186 @@
+//! The reader of the model text.
+ghost use Rattle.std.specs.Prelude.{◌≡◌, ◌≤◌, ℕ, length, Ok, Err, OnOk, IfOk};
+ghost use Rattle.model_types.specs.Ranges.{InForm};
+ghost use Rattle.model_text.specs.Lines as line_of;
+ghost use Rattle.model_text.specs.Grammar as grammar;
+ghost use Rattle.model_text.specs.Words.{words};
+ghost use Rattle.text_words.specs.Fields.{lines};
+
+use crate::records::record_of_words;
+use crate::words::{count, is_allowed, word};
+use model_types::{AddFault, Bounds, Case, Draft, Model, NoMemory, Record};
+use std::alloc::{AllocError, Global};
+use text_words::cut_line;
+use thiserror::Error;
+
+/// Why a text was not read.
+#[derive(Clone, Copy, Debug, PartialEq, Eq, Error)]
+pub enum TextFault {
+    /// The text is refused by this number, at this line, counted from 1.
+    #[error("refused {number} line {line}")]
+    Refused { number: u8, line: u32 },
+    #[error("out of memory")]
+    NoMemory,
+}
+
+impl From<AllocError> for TextFault {
+    ghost use Rattle.std.specs.Prelude.{◌≡◌};
+    ghost use Rattle.model_text.specs.declared.reader.TextFault.TheVariants.{NoMemory};
+
+    ghost from_gives = { λ _ e. e ≡ NoMemory };
+
+    fn from(_error: AllocError) -> TextFault {
+        TextFault::NoMemory
+    }
+}
+
+/// The most bytes that a text may have.
+const LONGEST_TEXT: usize = 4_194_304;
+
+/// What has been read of a text: whether the header, and which records.
+#[derive(Drop)]
+pub(crate) struct Reading {
+    header: bool,
+    draft: Draft,
+}
+
+// No record here is a bend, so the sine of its half angle isn't looked at.
+const NO_SINE: Bounds = Bounds { lo: 0, hi: 0 };
+
+/// Reads a text of at most 4,194,304 bytes. A text is refused by its first faulty line, or for what it lacks as a whole.
+pub fn read(alloc: Global, text: &[u8]) -> Result<Model, TextFault>
+    ensures model { IfOk result (λ model. grammar.parsed text.now ≡ Ok model) }
+    ensures refused { (number line : ℕ) → result ≡ Err (TextFault.Refused number line)
+        → grammar.parsed text.now ≡ Err (record { number = number; line = line }) }
+{
+    if text.len() > LONGEST_TEXT {
+        return Err(TextFault::Refused { number: 1, line: 1 });
+    }
+    let draft = Draft::new(alloc)?;
+    let mut reading = Reading {
+        header: false,
+        draft,
+    };
+    match take_lines(&mut reading, text) {
+        Ok(()) => whole(reading),
+        Err(fault) => Err(fault),
+    }
+}
+
+// The model of all lines.
+fn whole(reading: Reading) -> Result<Model, TextFault>
+    ensures model { IfOk result (λ model. grammar.whole (Ok reading) ≡ Ok model) }
+    ensures refused { (number line : ℕ) → result ≡ Err (TextFault.Refused number line)
+        → grammar.whole (Ok reading) ≡ Err (record { number = number; line = line }) }
+{
+    if !reading.header {
+        return Err(TextFault::Refused { number: 3, line: 1 });
+    }
+    match reading.draft.finish() {
+        Ok(model) => Ok(model),
+        Err(_) => Err(TextFault::Refused {
+            number: 15,
+            line: 1,
+        }),
+    }
+}
+
+// Takes the lines of a text, up to the first that is refused.
+fn take_lines(reading: &mut Reading, text: &[u8]) -> Result<(), TextFault>
+    requires { length text.now ≤ 4194304 }
+    ensures ok { OnOk result (grammar.after_lines reading.old 1 (lines text.now) ≡ Ok reading.new) }
+    ensures refused { (number line : ℕ) → result ≡ Err (TextFault.Refused number line)
+        → grammar.after_lines reading.old 1 (lines text.now) ≡ Err (record { number = number; line = line }) }
+{
+    let mut rest = Some(text);
+    let mut line = 1;
+    while let Some(left) = rest {
+        let (front, behind) = cut_line(left);
+        if let Err(fault) = take_line(reading, front) {
+            return Err(at_line(fault, line));
+        }
+        rest = behind;
+        line += 1;
+    }
+    Ok(())
+}
+
+// The fault of a line.
+fn at_line(fault: AddFault, line: u32) -> TextFault
+    ensures { result ≡ line_of.at_line fault line }
+{
+    match fault {
+        AddFault::Refused(number) => TextFault::Refused { number, line },
+        AddFault::NoMemory => TextFault::NoMemory,
+    }
+}
+
+// Takes the next line of the text.
+fn take_line(reading: &mut Reading, line: &[u8]) -> Result<(), AddFault>
+    ensures ok { OnOk result (line_of.after_line reading.old line.now ≡ Ok reading.new) }
+    ensures refused { (number : ℕ) → result ≡ Err (AddFault.Refused number) → line_of.after_line reading.old line.now ≡ Err number }
+{
+    if !is_allowed(line) {
+        return Err(AddFault::Refused(2));
+    }
+    if count(line) == 0 {
+        return Ok(());
+    }
+    if reading.header {
+        return take_record(&mut reading.draft, line);
+    }
+    if !is_header(line) {
+        return Err(AddFault::Refused(3));
+    }
+    reading.header = true;
+    Ok(())
+}
+
+// Whether a line's words are `pipeflex 1`.
+fn is_header(line: &[u8]) -> bool
+    ensures { result ≡ line_of.is_header (words line.now) }
+{
+    count(line) == 2 && word(line, 0) == b"pipeflex".as_slice() && word(line, 1) == b"1".as_slice()
+}
+
+// Takes the record of a line that has words.
+fn take_record(draft: &mut Draft, line: &[u8]) -> Result<(), AddFault>
+    ensures ok { OnOk result (line_of.record_taken draft.old (words line.now) ≡ Ok draft.new) }
+    ensures refused { (number : ℕ) → result ≡ Err (AddFault.Refused number) → line_of.record_taken draft.old (words line.now) ≡ Err number }
+{
+    match record_of_words(draft, line) {
+        Ok(found) => judge(draft, found),
+        Err(number) => Err(AddFault::Refused(number)),
+    }
+}
+
+// Adds a record, unless a rule or its load refuses it.
+fn judge(draft: &mut Draft, found: Record) -> Result<(), AddFault>
+    requires { InForm found }
+    ensures ok { OnOk result (line_of.taken draft.old found ≡ Ok draft.new) }
+    ensures refused { (number : ℕ) → result ≡ Err (AddFault.Refused number) → line_of.taken draft.old found ≡ Err number }
+{
+    if let Err(fault) = draft.add(found, NO_SINE) {
+        return Err(fault);
+    }
+    if is_loaded_case(&found) {
+        return Err(AddFault::Refused(17));
+    }
+    Ok(())
+}
+
+// Whether the record is a case with a load of its own, which isn't read yet.
+fn is_loaded_case(found: &Record) -> bool
+    ensures { result ≡ line_of.is_loaded_case found.now }
+{
+    match found {
+        Record::Case(case) => !is_at_rest(case),
+        _ => false,
+    }
+}
+
+fn is_at_rest(case: &Case) -> bool
+    ensures { result ≡ line_of.is_at_rest case.now }
+{
+    case.gx == 0 && case.gy == 0 && case.gz == 0 && !case.hangers && case.dt == 0 && case.p == 0
+}

@@ -1,0 +1,5 @@
+mod AllowedLemmas
+mod NameLists
+mod NumberingLemmas
+mod RefusalLemmas
+mod RuleLemmas

@@ -1,0 +1,6 @@
+pub mod Lists
+pub mod Numbering
+pub mod Ranges
+pub mod Refusals
+pub mod Rules
+pub mod Views

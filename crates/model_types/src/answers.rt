@@ -1,0 +1,125 @@
+//! What an analysis answers for a model: bounds, causes and the answers of cases and checks.
+ghost use Rattle.std.specs.Prelude.{◌≡◌, ◌==◌, length};
+
+use crate::ids::{CaseId, ElementId, NodeId, RestraintId};
+use std::marker::Model;
+
+/// A number lies between `lo` and `hi`, in the scale of its kind.
+#[derive(Clone, Copy, Debug, PartialEq, Eq)]
+pub struct Bounds {
+    pub lo: i128,
+    pub hi: i128,
+}
+
+/// Why a case is not certified. Freedoms are `ux uy uz rx ry rz`, numbered 0 to 5.
+#[derive(Clone, Copy, Debug, PartialEq, Eq)]
+pub enum Cause {
+    /// The members of the element leave their limits.
+    WidthElement(ElementId),
+    /// A row of the matrix leaves its limits.
+    WidthMatrix { node: NodeId, freedom: u32 },
+    /// The value that is left at the diagonal is under 1.
+    Pivot { node: NodeId, freedom: u32 },
+    /// The node's columns of the factor leave their limits.
+    WidthFactor(NodeId),
+    /// The row's definiteness inequality fails at every shift.
+    Margin { node: NodeId, freedom: u32 },
+    /// A load leaves its limits.
+    WidthLoad { node: NodeId, freedom: u32 },
+    /// A sum of the refinement leaves its limit in that turn of the search.
+    WidthSolve { turn: u32 },
+    /// The search for contact states has not ended after 200 turns.
+    Turns,
+    /// A number of the final residual or of the error bounds leaves its limit.
+    WidthResidual,
+    /// The reach of a gap or one-way support lies on neither side; `minus` names the side against its direction.
+    State { restraint: RestraintId, minus: bool },
+}
+
+/// Values of an answer, in the order that the answer says.
+#[derive(Debug, Drop)]
+pub struct Values<T> {
+    items: Vec<T>,
+}
+
+impl<T> Model for Values<T> {
+    ghost use Rattle.std.specs.Prelude.{List};
+
+    ghost Value = { List T };
+
+    ghost view = { λ v. v.items.items };
+}
+
+impl<T> Values<T> {
+    /// The values of a `Vec`, in its order.
+    pub fn new(items: Vec<T>) -> Values<T>
+        ensures { result ≡ items.items }
+    {
+        Values { items }
+    }
+
+    /// The values as a slice.
+    pub fn as_slice(&self) -> &[T]
+        ensures { result.now ≡ self.now }
+    {
+        self.items.as_slice()
+    }
+
+    /// How many values.
+    pub fn len(&self) -> usize
+        ensures { result ≡ length self.now }
+    {
+        self.items.len()
+    }
+
+    /// Whether there is no value.
+    pub fn is_empty(&self) -> bool
+        ensures { result ≡ (length self.now == 0) }
+    {
+        self.items.is_empty()
+    }
+
+    /// The `Vec` of the values.
+    pub fn into_vec(self) -> Vec<T>
+        ensures { result.items ≡ self }
+    {
+        self.items
+    }
+}
+
+/// The answer of a load case.
+#[derive(Debug, Drop)]
+pub enum CaseAnswer {
+    /// Every equilibrium lies within these bounds.
+    Certified {
+        /// Displacements and rotations in 2^-56 m and rad, one for each row: six for each node, in the model's order.
+        u: Values<Bounds>,
+        /// Loads in 2^-40 N and N m, one for each restraint member, in the model's order.
+        loads: Values<Bounds>,
+        /// Whether each one-way member is closed.
+        states: Values<bool>,
+    },
+    /// There is no certificate.
+    Uncertified {
+        cause: Cause,
+        /// The candidate, one number for each row, where the cause is `State`; empty otherwise.
+        guess: Values<i128>,
+    },
+}
+
+/// The answer of one station of a check. Stresses are in 2^-16 Pa.
+#[derive(Clone, Copy, Debug, PartialEq, Eq)]
+pub enum StationAnswer {
+    Judged { stress: Bounds, allowable: Bounds },
+    /// A number of the stress leaves its limits.
+    Wide,
+}
+
+/// The answer of a code check.
+#[derive(Debug, Drop)]
+pub enum CheckAnswer {
+    /// For each element in order the end `from`, then `to`.
+    Stations(Values<StationAnswer>),
+    /// This case of the check is not certified.
+    Unchecked(CaseId),
+}

@@ -1,0 +1,135 @@
+//! The model of a piping system.
+ghost use Rattle.std.specs.Prelude.{◌≡◌};
+ghost use Rattle.model_types.specs.Rules.{IsModel};
+
+use crate::records::{
+    Case, Check, Element, Force, Material, Move, Node, Pressure, Restraint, Section, Tee, Temp,
+};
+
+/// The records of a piping system, which keep all rules of the model text. [`Draft::finish`](crate::Draft::finish) makes it.
+#[derive(Drop)]
+pub struct Model {
+    pub(crate) materials: Vec<Material>,
+    pub(crate) sections: Vec<Section>,
+    pub(crate) nodes: Vec<Node>,
+    pub(crate) elements: Vec<Element>,
+    pub(crate) tees: Vec<Tee>,
+    pub(crate) restraints: Vec<Restraint>,
+    pub(crate) cases: Vec<Case>,
+    pub(crate) temps: Vec<Temp>,
+    pub(crate) pressures: Vec<Pressure>,
+    pub(crate) forces: Vec<Force>,
+    pub(crate) moves: Vec<Move>,
+    pub(crate) checks: Vec<Check>,
+}
+
+impl std::marker::Model for Model {
+    ghost use Rattle.model_types.specs.Lists.{Lists};
+
+    ghost Value = { Lists };
+
+    ghost use Rattle.model_types.specs.Rules.{IsModel};
+    ghost use Rattle.model_types.specs.Views.{model_lists};
+
+    ghost view = { model_lists };
+
+    ghost invariant = { λ m. IsModel (model_lists m) };
+}
+
+impl Model {
+    /// The materials, in text order.
+    pub fn materials(&self) -> &[Material]
+        ensures records { result.now ≡ self.now.materials }
+        ensures model { IsModel self.now }
+    {
+        self.materials.as_slice()
+    }
+
+    /// The sections, in text order.
+    pub fn sections(&self) -> &[Section]
+        ensures records { result.now ≡ self.now.sections }
+        ensures model { IsModel self.now }
+    {
+        self.sections.as_slice()
+    }
+
+    /// The nodes, in text order.
+    pub fn nodes(&self) -> &[Node]
+        ensures records { result.now ≡ self.now.nodes }
+        ensures model { IsModel self.now }
+    {
+        self.nodes.as_slice()
+    }
+
+    /// The elements, in text order.
+    pub fn elements(&self) -> &[Element]
+        ensures records { result.now ≡ self.now.elements }
+        ensures model { IsModel self.now }
+    {
+        self.elements.as_slice()
+    }
+
+    /// The tees, in text order.
+    pub fn tees(&self) -> &[Tee]
+        ensures records { result.now ≡ self.now.tees }
+        ensures model { IsModel self.now }
+    {
+        self.tees.as_slice()
+    }
+
+    /// The restraints, in text order.
+    pub fn restraints(&self) -> &[Restraint]
+        ensures records { result.now ≡ self.now.restraints }
+        ensures model { IsModel self.now }
+    {
+        self.restraints.as_slice()
+    }
+
+    /// The load cases, in text order.
+    pub fn cases(&self) -> &[Case]
+        ensures records { result.now ≡ self.now.cases }
+        ensures model { IsModel self.now }
+    {
+        self.cases.as_slice()
+    }
+
+    /// The changes of temperature of single sections, in text order.
+    pub fn temps(&self) -> &[Temp]
+        ensures records { result.now ≡ self.now.temps }
+        ensures model { IsModel self.now }
+    {
+        self.temps.as_slice()
+    }
+
+    /// The pressures of single sections, in text order.
+    pub fn pressures(&self) -> &[Pressure]
+        ensures records { result.now ≡ self.now.pressures }
+        ensures model { IsModel self.now }
+    {
+        self.pressures.as_slice()
+    }
+
+    /// The forces, in text order.
+    pub fn forces(&self) -> &[Force]
+        ensures records { result.now ≡ self.now.forces }
+        ensures model { IsModel self.now }
+    {
+        self.forces.as_slice()
+    }
+
+    /// The movements of anchors, in text order.
+    pub fn moves(&self) -> &[Move]
+        ensures records { result.now ≡ self.now.moves }
+        ensures model { IsModel self.now }
+    {
+        self.moves.as_slice()
+    }
+
+    /// The code checks, in text order.
+    pub fn checks(&self) -> &[Check]
+        ensures records { result.now ≡ self.now.checks }
+        ensures model { IsModel self.now }
+    {
+        self.checks.as_slice()
+    }
+}
