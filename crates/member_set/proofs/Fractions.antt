@@ -1,0 +1,117 @@
+-- How a number within an interval is written over another denominator.
+use Rattle.std.proofs.Common.{◌≡◌, ◌∙◌, sym, ap, subst, arith, ◌^◌, ℤ, pos, neg_ℤ, ◌+ℤ◌, ◌-ℤ◌, ◌*ℤ◌, ◌<ℤ◌}
+use Rattle.int_laws.proofs.Sums.{int_sums}
+use Rattle.int_laws.proofs.Products.{mul_comm, mul_assoc, mul_right_comm, one-mul, add-mul, neg-mul, sub-mul, le_mul, le_of_mul, mul_positive}
+use Rattle.flex_interval.specs.Ends.{Ends}
+use Rattle.flex_interval.specs.Fraction.{Fraction, Within, plus, minus, negated, times, whole}
+use Rattle.member_set.specs.declared.members.Law.{Law}
+use Rattle.member_set.specs.declared.members.Law.TheVariants.{Linear}
+use Rattle.member_set.specs.Members.{start_of}
+use Rattle.member_set.specs.Realisation.{fraction, reach_fraction, force_fraction, pull_fraction, ExactLaw, linear, IsLawWithin, stretch}
+
+-- products in one order, for `simp`
+left_comm : (a b c : ℤ) → a *ℤ (b *ℤ c) ≡ b *ℤ (a *ℤ c)
+left_comm a b c = sym (mul_assoc a b c) ∙ ap (λ (z : ℤ). z *ℤ c) (mul_comm a b) ∙ mul_assoc b a c
+
+mul_one : (a : ℤ) → a *ℤ pos 1 ≡ a
+mul_one a = mul_comm a (pos 1) ∙ one-mul a
+
+ruleset factors = (mul_assoc, mul_comm, left_comm, mul_one, one-mul)
+
+-- the same number over another denominator
+pub within-moved : (e : Ends) (num den n d : ℤ) → pos 0 <ℤ d → num *ℤ d ≡ n *ℤ den → Within e (fraction num den) → Within e (fraction n d)
+within-moved e num den n d positive same w =
+    let low = le_mul d (omega (arith, int_sums)) w.at_least in
+    let high = le_mul d (omega (arith, int_sums)) w.at_most in
+    record {
+      defined = positive;
+      at_least = le_of_mul den (e.lo *ℤ d) n w.defined (omega (arith, int_sums, low, same, mul_right_comm e.lo den d));
+      at_most = le_of_mul den n (e.hi *ℤ d) w.defined (omega (arith, int_sums, high, same, mul_right_comm e.hi den d));
+    }
+
+-- ---- what sums, differences and products of enclosures enclose, each over the one denominator it has in the end
+pub sum_within : (e : Ends) (x y d : ℤ) → pos 0 <ℤ d → Within e (plus (fraction x d) (fraction y d)) → Within e (fraction (x +ℤ y) d)
+unfolding plus
+sum_within e x y d positive w = within-moved e _ _ (x +ℤ y) d positive (simp (add-mul, mul_assoc)) w
+
+pub difference_within : (e : Ends) (x y d : ℤ) → pos 0 <ℤ d → Within e (minus (fraction x d) (fraction y d)) → Within e (fraction (x -ℤ y) d)
+unfolding minus plus negated
+difference_within e x y d positive w = within-moved e _ _ (x -ℤ y) d positive (over_common x y d) w
+  where
+    over_common : (x y d : ℤ) → ((x *ℤ d) +ℤ (neg_ℤ y *ℤ d)) *ℤ d ≡ (x -ℤ y) *ℤ (d *ℤ d)
+    over_common x y d = let apart = sub-mul x y (d *ℤ d) in simp (add-mul, neg-mul, mul_assoc) (omega (arith, int_sums, apart))
+
+-- the denominators of reaches and of pulls are positive
+pub square_unit : (q : ℤ) → pos 0 <ℤ q → pos 0 <ℤ (pos (2 ^ 56) *ℤ (q *ℤ q))
+square_unit q positive = mul_positive (pos (2 ^ 56)) (q *ℤ q) (omega (arith, int_sums)) (mul_positive q q positive positive)
+
+-- two parts of a reach
+pub reach_sum_within : (e a b : Ends) (q x y : ℤ) → pos 0 <ℤ q → Within a (reach_fraction q x) → Within b (reach_fraction q y) →
+    ((v w : Fraction) → Within a v → Within b w → Within e (plus v w)) → Within e (reach_fraction q (x +ℤ y))
+reach_sum_within e a b q x y positive first second sum =
+    sum_within e x y (pos (2 ^ 56) *ℤ (q *ℤ q)) (square_unit q positive) (sum _ _ first second)
+
+-- a shape number times a displacement, over 2^56 q^2
+pub product_within : (e : Ends) (shape u q : ℤ) → pos 0 <ℤ q → Within e (times (fraction shape q) (whole u) 56) → Within e (reach_fraction q (shape *ℤ (q *ℤ u)))
+unfolding times whole
+product_within e shape u q positive w =
+    within-moved e _ _ (shape *ℤ (q *ℤ u)) (pos (2 ^ 56) *ℤ (q *ℤ q)) (square_unit q positive) (unit_product shape u q (pos (2 ^ 56))) w
+  where
+    unit_product : (shape u q unit : ℤ) → (shape *ℤ u) *ℤ (unit *ℤ (q *ℤ q)) ≡ (shape *ℤ (q *ℤ u)) *ℤ ((q *ℤ pos 1) *ℤ unit)
+    unit_product shape u q unit = simp factors
+
+-- the force of a linear law: what is past the initial deformation, times the stiffness
+pub force_within : (q reach stiffness : ℤ) (law : Law) (exact : ExactLaw) (kappa x y e : Ends) → pos 0 <ℤ q →
+    Within kappa (fraction stiffness q) → IsLawWithin q law exact → Within x (reach_fraction q reach) →
+    ((a b : Fraction) → Within x a → Within (start_of law) b → Within y (minus a b)) →
+    ((a b : Fraction) → Within kappa a → Within y b → Within e (times a b 36)) →
+    Within e (force_fraction q (stiffness *ℤ stretch q exact reach))
+unfolding times
+force_within q reach stiffness (Linear offset) (linear d) kappa x y e positive kappa_within offset_within x_within less product =
+    let den = square_unit q positive in
+    let start = within-moved offset d q ((pos (2 ^ 56) *ℤ q) *ℤ d) (pos (2 ^ 56) *ℤ (q *ℤ q)) den (over_square d q (pos (2 ^ 56))) offset_within in
+    let past = difference_within y reach ((pos (2 ^ 56) *ℤ q) *ℤ d) (pos (2 ^ 56) *ℤ (q *ℤ q)) den (less _ _ x_within start) in
+    within-moved e _ _ _ (pos (2 ^ 92) *ℤ ((q *ℤ q) *ℤ q)) (mul_positive (pos (2 ^ 92)) ((q *ℤ q) *ℤ q) (omega (arith, int_sums)) (mul_positive (q *ℤ q) q (mul_positive q q positive positive) positive))
+    (over_cube (stiffness *ℤ (reach -ℤ ((pos (2 ^ 56) *ℤ q) *ℤ d))) q (pos (2 ^ 56)) (pos (2 ^ 36)))
+    (product _ _ kappa_within past)
+  where
+    over_square : (d q unit : ℤ) → d *ℤ (unit *ℤ (q *ℤ q)) ≡ ((unit *ℤ q) *ℤ d) *ℤ q
+    over_square d q unit = simp factors
+
+    over_cube : (n q unit step : ℤ) → n *ℤ ((unit *ℤ step) *ℤ ((q *ℤ q) *ℤ q)) ≡ n *ℤ ((q *ℤ (unit *ℤ (q *ℤ q))) *ℤ step)
+    over_cube n q unit step = simp factors
+
+pub fourth_unit : (q : ℤ) → pos 0 <ℤ q → pos 0 <ℤ (pos (2 ^ 148) *ℤ (((q *ℤ q) *ℤ q) *ℤ q))
+fourth_unit q positive =
+    let square = mul_positive q q positive positive in
+    mul_positive (pos (2 ^ 148)) (((q *ℤ q) *ℤ q) *ℤ q) (omega (arith, int_sums))
+    (mul_positive ((q *ℤ q) *ℤ q) q (mul_positive (q *ℤ q) q square positive) positive)
+
+-- a shape number times a force, over 2^148 q^4
+pub pull_within : (e : Ends) (q weight force : ℤ) → pos 0 <ℤ q → Within e (times (fraction weight q) (force_fraction q force) 56) → Within e (pull_fraction q (weight *ℤ force))
+unfolding times
+pull_within e q weight force positive w =
+    within-moved e _ _ (weight *ℤ force) (pos (2 ^ 148) *ℤ (((q *ℤ q) *ℤ q) *ℤ q)) (fourth_unit q positive) (over_fourth (weight *ℤ force) q (pos (2 ^ 92)) (pos (2 ^ 56))) w
+  where
+    over_fourth : (n q unit step : ℤ) → n *ℤ ((unit *ℤ step) *ℤ (((q *ℤ q) *ℤ q) *ℤ q)) ≡ n *ℤ ((q *ℤ (unit *ℤ ((q *ℤ q) *ℤ q))) *ℤ step)
+    over_fourth n q unit step = simp factors
+
+-- a load, over 2^148 q^4
+pub load_within : (e : Ends) (q load : ℤ) → pos 0 <ℤ q → Within e (fraction load q) → Within e (pull_fraction q ((pos (2 ^ 148) *ℤ ((q *ℤ q) *ℤ q)) *ℤ load))
+load_within e q load positive w =
+    within-moved e _ _ ((pos (2 ^ 148) *ℤ ((q *ℤ q) *ℤ q)) *ℤ load) (pos (2 ^ 148) *ℤ (((q *ℤ q) *ℤ q) *ℤ q)) (fourth_unit q positive) (over_load load q (pos (2 ^ 148))) w
+  where
+    over_load : (load q unit : ℤ) → load *ℤ (unit *ℤ (((q *ℤ q) *ℤ q) *ℤ q)) ≡ ((unit *ℤ ((q *ℤ q) *ℤ q)) *ℤ load) *ℤ q
+    over_load load q unit = simp factors
+
+-- what is left when a part is taken away
+pub pull_less_within : (e a b : Ends) (q x y : ℤ) → pos 0 <ℤ q → Within a (pull_fraction q x) → Within b (pull_fraction q y) →
+    ((v w : Fraction) → Within a v → Within b w → Within e (minus v w)) → Within e (pull_fraction q (x -ℤ y))
+pull_less_within e a b q x y positive first second less =
+    difference_within e x y (pos (2 ^ 148) *ℤ (((q *ℤ q) *ℤ q) *ℤ q)) (fourth_unit q positive) (less _ _ first second)
+
+-- what is left when parts are taken one after the other
+pub pull_taken : (e : Ends) (q load taken part all : ℤ) → all ≡ taken +ℤ part → Within e (pull_fraction q ((load -ℤ taken) -ℤ part)) → Within e (pull_fraction q (load -ℤ all))
+pull_taken e q load taken part all same w =
+    let moved : (load -ℤ taken) -ℤ part ≡ load -ℤ all = omega (arith, int_sums, same) in
+    subst (λ (z : ℤ). Within e (pull_fraction q z)) moved w

@@ -1,0 +1,5 @@
+pub mod Fractions
+pub mod Rows
+pub mod Touching
+pub mod Turns
+pub mod RestLaw

@@ -1,0 +1,75 @@
+-- The interval that each call answers, or its fault, rounding by rounding.
+use Rattle.std.specs.Prelude.{◌≡◌, ◌<◌, ℕ, zero, suc, ◌+◌, ◌-◌, ◌*◌, ◌/◌, ◌^◌, ◌&&◌, ◌==◌, nat_lt, List, length, slice_index, slice_index_or, ℤ, pos, unsigned_abs, Result, Ok, Err, if◌then◌else◌}
+use Rattle.flex_interval.specs.Ends.{Ends}
+use Rattle.flex_interval.specs.Operations.{and_then, point_of, add_of, sub_of, mul_of}
+use Rattle.flex_interval.specs.declared.fault.IvFault.{IvFault}
+use Rattle.flex_interval.specs.declared.fault.IvFault.TheVariants.{Wide}
+use Rattle.member_set.specs.declared.members.Member.{Member}
+use Rattle.member_set.specs.declared.members.Law.{Law}
+use Rattle.member_set.specs.declared.members.Law.TheVariants.{Linear}
+use Rattle.member_set.specs.declared.members.Built.{Built}
+use Rattle.member_set.specs.Members.{nothing, shape_at, member_of, law_of, load_of, force_of, members_at}
+
+-- an interval, or why there is none
+abbrev pub Outcome : Type 0
+Outcome = Result Ends IvFault
+
+-- the first n terms, one after the other, added to a start or taken from it
+abbrev pub in_turn : (Ends → Ends → Outcome) → Ends → (ℕ → Outcome) → ℕ → Outcome
+in_turn step start term zero = Ok start
+in_turn step start term (suc n) = and_then (in_turn step start term n) (λ total. and_then (term n) (λ e. step total e))
+
+-- how many shape numbers a member has: a member at one node only has the first six
+abbrev pub place_count : Member → ℕ
+place_count m = if m.n1 == m.n2 then 6 else 12
+
+-- the row of a shape number's place
+abbrev pub row_of : Member → ℕ → ℕ
+row_of m place = if nat_lt place 6 then 6 * m.n1 + place else 6 * m.n2 + (place - 6)
+
+-- one term of w.u
+abbrev pub reach_term : Member → List ℤ → ℕ → Outcome
+reach_term m u place = mul_of (slice_index_or m.w place nothing) (point_of (slice_index_or u (row_of m place) (pos 0))) 56
+
+-- w.u
+unfoldable pub reach_of : Member → List ℤ → Outcome
+reach_of m u = in_turn add_of nothing (reach_term m u) (place_count m)
+
+-- the force by the law: kappa (x - offset)
+abbrev pub law_force_of : Member → Law → Ends → Outcome
+law_force_of m (Linear offset) x = and_then (sub_of x offset) (λ y. mul_of m.kappa y 36)
+
+-- below 2^66 in size
+abbrev pub limited_force : Ends → Outcome
+limited_force f = if nat_lt (unsigned_abs f.lo) (2 ^ 66) && nat_lt (unsigned_abs f.hi) (2 ^ 66) then Ok f else Err Wide
+
+-- the force of a member at displacements u, below 2^66 in size
+unfoldable pub member_force_of : Member → Law → List ℤ → Outcome
+member_force_of m law u = and_then (reach_of m u) (λ x. and_then (law_force_of m law x) limited_force)
+
+-- w_row times a force
+abbrev pub pull_of : Member → ℕ → Ends → Outcome
+pull_of m row force = mul_of (shape_at m row) force 56
+
+-- what the t-th of the members at a row's node holds against the row's load
+abbrev pub residual_term : Built → (ℕ → Outcome) → ℕ → ℕ → Outcome
+residual_term b force row t =
+    let k = slice_index (members_at b (row / 6)) t in and_then (force k) (pull_of (member_of b k) row)
+
+-- the load of a row less w_row times force of each member at the row's node
+unfoldable pub residual_with : Built → List Ends → (ℕ → Outcome) → ℕ → Outcome
+residual_with b loads force row =
+    in_turn sub_of (load_of loads row) (residual_term b force row) (length (members_at b (row / 6)))
+
+-- the forces of the members at displacements u
+abbrev pub forces_of : Built → List Law → List ℤ → ℕ → Outcome
+forces_of b laws u k = member_force_of (member_of b k) (law_of laws k) u
+
+-- the same, where the forces are those of displacements u
+abbrev pub residual_of : Built → List Law → List Ends → List ℤ → ℕ → Outcome
+residual_of b laws loads u row = residual_with b loads (forces_of b laws u) row
+
+-- the list has each member's force at displacements u
+pub record AreForces (b : Built) (laws : List Law) (u : List ℤ) (forces : List Ends) : Type 0 where
+  pub one_each : length forces ≡ length b.members
+  pub value : (k : ℕ) → k < length b.members → forces_of b laws u k ≡ Ok (force_of forces k)

@@ -1,0 +1,74 @@
+-- Members, their nodes and their rows. Freedom f of node n, `ux uy uz rx ry rz`, has row `6 n + f`.
+use Rattle.std.specs.Prelude.{ℕ, ◌+◌, ◌*◌, ◌/◌, ◌%◌, ◌<◌, ◌≡◌, ◌==◌, ◌⊎◌, ◌↔◌, List, [], length, slice_index_or, Contains, AllPairs, ℤ, pos, if◌then◌else◌, All, unsigned_abs, ◌≤◌, ◌^◌}
+use Rattle.flex_interval.specs.Ends.{Ends}
+use Rattle.member_set.specs.declared.members.Member.{Member}
+use Rattle.member_set.specs.declared.members.Law.{Law}
+use Rattle.member_set.specs.declared.members.Law.TheVariants.{Linear}
+use Rattle.member_set.specs.declared.members.Built.{Built}
+
+-- the interval of 0 alone
+abbrev pub nothing : Ends
+nothing = record { lo = pos 0; hi = pos 0 }
+
+-- the enclosure of a member's shape number on a row: exactly 0 on a row that is not one of its nodes'
+abbrev pub shape_at : Member → ℕ → Ends
+shape_at m row =
+    if row / 6 == m.n1 then slice_index_or m.w (row % 6) nothing
+    else if row / 6 == m.n2 then slice_index_or m.w (6 + row % 6) nothing
+    else nothing
+
+-- the node is one of the member's
+abbrev pub Touches : Member → ℕ → Type 0
+Touches m node = (m.n1 ≡ node) ⊎ (m.n2 ≡ node)
+
+-- the reach at which the force of a law begins
+abbrev pub start_of : Law → Ends
+start_of (Linear offset) = offset
+
+-- a member and a law for reads past the end of a list
+abbrev pub no_member : Member
+no_member = record { n1 = 0; n2 = 0; kappa = nothing; w = [] }
+
+abbrev pub no_law : Law
+no_law = Linear nothing
+
+abbrev pub member_of : Built → ℕ → Member
+member_of b k = slice_index_or b.members k no_member
+
+abbrev pub law_of : List Law → ℕ → Law
+law_of laws k = slice_index_or laws k no_law
+
+abbrev pub load_of : List Ends → ℕ → Ends
+load_of loads row = slice_index_or loads row nothing
+
+abbrev pub force_of : List Ends → ℕ → Ends
+force_of forces k = slice_index_or forces k nothing
+
+abbrev pub node_count : Built → ℕ
+node_count b = length b.at
+
+abbrev pub row_count : Built → ℕ
+row_count b = 6 * node_count b
+
+-- the numbers of the members that touch a node
+abbrev pub members_at : Built → ℕ → List ℕ
+members_at b node = slice_index_or b.at node []
+
+-- rows have numbers of 32 bits, the members' nodes are in range, and `at` has for each node the numbers of the members
+-- that touch it, rising
+pub record IsBuilt (b : Built) : Type 0 where
+  pub numbered : row_count b ≤ 2 ^ 32
+  pub first_node : (k : ℕ) → k < length b.members → (member_of b k).n1 < node_count b
+  pub second_node : (k : ℕ) → k < length b.members → (member_of b k).n2 < node_count b
+  pub rising : (node : ℕ) → AllPairs (λ x y. x < y) (members_at b node)
+  pub touching : (node k : ℕ) → node < node_count b →
+      Contains (members_at b node) k ↔ ((k < length b.members) × Touches (member_of b k) node)
+
+-- one law a member, one load a row
+pub record FitsBuilt (b : Built) (laws : List Law) (loads : List Ends) : Type 0 where
+  pub one_law_each : length laws ≡ length b.members
+  pub one_load_each : length loads ≡ row_count b
+
+-- a displacement is at most 2^60 in size, in units of 2^-56 m or rad
+abbrev pub IsModerate : List ℤ → Type 0
+IsModerate u = All (λ z. unsigned_abs z ≤ 2 ^ 60) u

@@ -1,0 +1,146 @@
+-- A realisation of the enclosures and its equilibria, in whole numbers alone: what the certified bounds speak of. No
+-- matrix, elimination order, factor or rounding stands in it.
+--
+-- A number of a realisation stands over the realisation's denominator, in the unit of its enclosure: stiffnesses in
+-- 2^-20 N/m, shape numbers in 2^-56, displacements and initial deformations in 2^-56 m or rad, loads in 2^-40 N or N m.
+use Rattle.std.specs.Prelude.{ℕ, ◌^◌, ◌<◌, ◌≡◌, List, length, slice_index_or, ℤ, pos, ◌-ℤ◌, ◌*ℤ◌, ◌<ℤ◌, ◌≤ℤ◌}
+use Rattle.int_laws.specs.Sums.{sum_below}
+use Rattle.flex_interval.specs.Ends.{Ends}
+use Rattle.flex_interval.specs.Fraction.{Fraction, Within}
+use Rattle.member_set.specs.declared.members.Member.{Member}
+use Rattle.member_set.specs.declared.members.Law.{Law}
+use Rattle.member_set.specs.declared.members.Law.TheVariants.{Linear}
+use Rattle.member_set.specs.declared.members.Built.{Built}
+use Rattle.member_set.specs.Members.{nothing, shape_at, start_of, member_of, law_of, load_of, row_count}
+
+-- n / q
+abbrev pub fraction : ℤ → ℤ → Fraction
+fraction n q = record { num = n; den = q }
+
+-- one whole number a row
+abbrev pub Vector : Type 0
+Vector = ℕ → ℤ
+
+-- a member's law in a realisation: linear, with an initial deformation
+pub data ExactLaw : Type 0 where
+  linear : ℤ → ExactLaw
+
+-- a member in a realisation: its stiffness K, its shape number W on each row, and its law
+pub record ExactMember : Type 0 where
+  pub stiffness : ℤ
+  pub shape : Vector
+  pub law : ExactLaw
+
+pub record Realisation : Type 0 where
+  pub denominator : ℤ
+  pub rows : ℕ
+  pub members : ℕ
+  pub member : ℕ → ExactMember
+  pub load : Vector
+
+-- ---- what a realisation is of
+
+-- the law's number is within its interval
+abbrev pub IsLawWithin : ℤ → Law → ExactLaw → Type 0
+IsLawWithin q (Linear offset) (linear d) = Within offset (fraction d q)
+
+-- each number of a member is within its interval
+pub record IsMemberWithin (q : ℤ) (m : Member) (law : Law) (x : ExactMember) : Type 0 where
+  pub stiffness_within : Within m.kappa (fraction x.stiffness q)
+  pub shape_within : (row : ℕ) → Within (shape_at m row) (fraction (x.shape row) q)
+  pub law_within : IsLawWithin q law x.law
+
+-- each stiffness, shape number, initial deformation and load is within its interval, whatever the others are
+pub record IsRealisation (b : Built) (laws : List Law) (loads : List Ends) (r : Realisation) : Type 0 where
+  pub positive : pos 0 <ℤ r.denominator
+  pub all_rows : r.rows ≡ row_count b
+  pub all_members : r.members ≡ length b.members
+  pub member_within : (k : ℕ) → k < r.members → IsMemberWithin r.denominator (member_of b k) (law_of laws k) (r.member k)
+  pub load_within : (row : ℕ) → row < r.rows → Within (load_of loads row) (fraction (r.load row) r.denominator)
+
+-- ---- forces and equilibrium at displacements U, whole numbers over the denominator q
+
+-- W.U, over all rows: 2^56 q^2 times how far the displacements reach along the member
+abbrev pub exact_reach : ℕ → ExactMember → Vector → ℤ
+exact_reach rows m u = sum_below rows (λ row. m.shape row *ℤ u row)
+
+-- what of a reach counts for the force: all that is past the initial deformation
+abbrev pub stretch : ℤ → ExactLaw → ℤ → ℤ
+stretch q (linear d) reach = reach -ℤ ((pos (2 ^ 56) *ℤ q) *ℤ d)
+
+-- F = K (W.U - 2^56 q D): 2^92 q^3 times the member's force
+abbrev pub exact_force : ℤ → ExactMember → ℤ → ℤ
+exact_force q m reach = m.stiffness *ℤ stretch q m.law reach
+
+abbrev pub force_in : Realisation → Vector → ℕ → ℤ
+force_in r u k = exact_force r.denominator (r.member k) (exact_reach r.rows (r.member k) u)
+
+-- the sum over the members of W_row F: what they hold against the load of a row
+abbrev pub resistance : Realisation → Vector → ℕ → ℤ
+resistance r u row = sum_below r.members (λ k. (r.member k).shape row *ℤ force_in r u k)
+
+-- 2^148 q^3 L
+abbrev pub exact_load : Realisation → ℕ → ℤ
+exact_load r row = (pos (2 ^ 148) *ℤ ((r.denominator *ℤ r.denominator) *ℤ r.denominator)) *ℤ r.load row
+
+-- every row is in balance
+abbrev pub IsEquilibrium : Realisation → Vector → Type 0
+IsEquilibrium r u = (row : ℕ) → row < r.rows → resistance r u row ≡ exact_load r row
+
+-- displacements u in whole units, over the denominator q
+abbrev pub displaced : ℤ → List ℤ → Vector
+displaced q u row = q *ℤ slice_index_or u row (pos 0)
+
+-- ---- the same as fractions, in the units of the enclosures
+
+-- a reach, and a force, by their whole numbers
+abbrev pub reach_fraction : ℤ → ℤ → Fraction
+reach_fraction q reach = fraction reach (pos (2 ^ 56) *ℤ (q *ℤ q))
+
+abbrev pub force_fraction : ℤ → ℤ → Fraction
+force_fraction q force = fraction force (pos (2 ^ 92) *ℤ ((q *ℤ q) *ℤ q))
+
+abbrev pub pull_fraction : ℤ → ℤ → Fraction
+pull_fraction q pull = fraction pull (pos (2 ^ 148) *ℤ (((q *ℤ q) *ℤ q) *ℤ q))
+
+-- what is left of a row's load: 0 in an equilibrium
+abbrev pub exact_residual : Realisation → Vector → ℕ → Fraction
+exact_residual r u row = pull_fraction r.denominator (exact_load r row -ℤ resistance r u row)
+
+-- ---- what is always there
+
+-- all lower ends, over 1
+abbrev pub lower_law : Law → ExactLaw
+lower_law (Linear offset) = linear offset.lo
+
+abbrev pub lower_ends : Built → List Law → List Ends → Realisation
+lower_ends b laws loads =
+    record {
+      denominator = pos 1;
+      rows = row_count b;
+      members = length b.members;
+      member = λ k. record { stiffness = (member_of b k).kappa.lo; shape = λ row. (shape_at (member_of b k) row).lo; law = lower_law (law_of laws k) };
+      load = λ row. (load_of loads row).lo;
+    }
+
+-- every interval holds a number
+pub record HoldNumbers (b : Built) (laws : List Law) (loads : List Ends) : Type 0 where
+  pub stiffnesses : (k : ℕ) → k < length b.members → (member_of b k).kappa.lo ≤ℤ (member_of b k).kappa.hi
+  pub shapes : (k row : ℕ) → k < length b.members → (shape_at (member_of b k) row).lo ≤ℤ (shape_at (member_of b k) row).hi
+  pub starts : (k : ℕ) → k < length b.members → (start_of (law_of laws k)).lo ≤ℤ (start_of (law_of laws k)).hi
+  pub loads_hold : (row : ℕ) → row < row_count b → (load_of loads row).lo ≤ℤ (load_of loads row).hi
+
+-- there is a realisation: that of all lower ends
+abbrev pub LowerEndsAreRealisation : Type 0
+LowerEndsAreRealisation = (b : Built) (laws : List Law) (loads : List Ends) →
+    HoldNumbers b laws loads → IsRealisation b laws loads (lower_ends b laws loads)
+
+-- no load and no initial deformation
+pub record IsAtRest (b : Built) (laws : List Law) (loads : List Ends) : Type 0 where
+  pub no_offset : (k : ℕ) → k < length b.members → law_of laws k ≡ Linear nothing
+  pub no_load : (row : ℕ) → row < row_count b → load_of loads row ≡ nothing
+
+-- zero displacements are an equilibrium of every realisation of a structure at rest
+abbrev pub RestIsEquilibrium : Type 0
+RestIsEquilibrium = (b : Built) (laws : List Law) (loads : List Ends) (r : Realisation) →
+    IsAtRest b laws loads → IsRealisation b laws loads r → IsEquilibrium r (λ _. pos 0)

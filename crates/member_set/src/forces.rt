@@ -1,0 +1,75 @@
+ghost use Rattle.std.specs.Prelude.{◌≡◌, ℕ, ◌+◌, ◌*◌, ◌<◌, ◌≤◌, length, slice_index_or, ℤ, pos, ◌*ℤ◌, ◌<ℤ◌, IfOk};
+ghost use Rattle.flex_interval.specs.Fraction.{Within};
+ghost use Rattle.member_set.specs.Members.{start_of, IsModerate, shape_at, nothing};
+ghost use Rattle.member_set.specs.Realisation.{ExactMember, IsLawWithin, IsMemberWithin, stretch, displaced, exact_reach, exact_force, reach_fraction, force_fraction, fraction};
+ghost use Rattle.member_set.specs.Interval.{place_count, row_of, reach_term, reach_of, law_force_of};
+
+use crate::members::{Law, Member};
+use flex_interval::{Iv, IvFault};
+
+/// How far displacements `u`, one for each row in units of 2^-56 m or rad, reach along a member: `w.u`, in the same units.
+pub fn reach(m: &Member, u: &[i128]) -> Result<Iv, IvFault>
+    requires first_node { 6 * m.now.n1 + 6 ≤ length u.now }
+    requires second_node { 6 * m.now.n2 + 6 ≤ length u.now }
+    requires moderate { IsModerate u.now }
+    ensures value { result ≡ reach_of m.now u.now }
+    ensures within { IfOk result (λ e. (q : ℤ) (x : ExactMember) → pos 0 <ℤ q →
+        ((row : ℕ) → Within (shape_at m.now row) (fraction (x.shape row) q)) →
+        Within e (reach_fraction q (exact_reach (length u.now) x (displaced q u.now)))) }
+{
+    let mut total = flex_interval::point(0);
+    for place in 0..place_count(m) {
+        total = flex_interval::add(total, reach_term(m, u, place)?)?;
+    }
+    Ok(total)
+}
+
+/// How many shape numbers a member has.
+fn place_count(m: &Member) -> usize
+    ensures { result ≡ place_count m.now }
+{
+    if m.n1 == m.n2 { 6 } else { 12 }
+}
+
+/// The row of a shape number's place.
+fn row_of(m: &Member, place: usize) -> usize
+    requires { place < 12 }
+    ensures { result ≡ row_of m.now place }
+{
+    if place < 6 {
+        6 * m.n1 as usize + place
+    } else {
+        6 * m.n2 as usize + (place - 6)
+    }
+}
+
+/// One product of `w.u`.
+fn reach_term(m: &Member, u: &[i128], place: usize) -> Result<Iv, IvFault>
+    requires place_in_range { place < 12 }
+    requires first_node { 6 * m.now.n1 + 6 ≤ length u.now }
+    requires second_node { 6 * m.now.n2 + 6 ≤ length u.now }
+    requires moderate { IsModerate u.now }
+    ensures value { result ≡ reach_term m.now u.now place }
+    ensures within { IfOk result (λ e. (q shape : ℤ) → pos 0 <ℤ q → Within (slice_index_or m.now.w place nothing) (fraction shape q) →
+        Within e (reach_fraction q (shape *ℤ displaced q u.now (row_of m.now place)))) }
+{
+    flex_interval::mul(m.w[place], flex_interval::point(u[row_of(m, place)]), 56)
+}
+
+/// The force of a member with a reach, in units of 2^-40 N or N m.
+pub fn law_force(m: &Member, law: &Law, x: Iv) -> Result<Iv, IvFault>
+    ensures value { result ≡ law_force_of m.now law.now x }
+    ensures within { IfOk result (λ e. (q reach : ℤ) (exact : ExactMember) → pos 0 <ℤ q → IsMemberWithin q m.now law.now exact →
+        Within x (reach_fraction q reach) → Within e (force_fraction q (exact_force q exact reach))) }
+{
+    flex_interval::mul(m.kappa, flex_interval::sub(x, start(law))?, 36)
+}
+
+/// The reach at which the force of a law begins.
+fn start(law: &Law) -> Iv
+    ensures { result ≡ start_of law.now }
+{
+    match law {
+        Law::Linear { offset } => *offset,
+    }
+}

@@ -1,0 +1,14 @@
+//! Members of a piping model: how far displacements reach along each, the force by its law, and the residual of a row.
+#![tactic(auto)]
+
+mod forces;
+mod laws;
+mod lists;
+mod members;
+mod residuals;
+
+pub use forces::{law_force, reach};
+pub use laws::rest_is_equilibrium;
+pub use lists::Sequence;
+pub use members::{Built, Law, Member, Station};
+pub use residuals::{FORCE_LIMIT, member_force, member_forces, residual_from, residual_row, shape};

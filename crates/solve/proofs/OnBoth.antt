@@ -1,0 +1,6 @@
+-- Two facts of one result.
+use Rattle.std.specs.Prelude.{Result, Ok, Err, OnOk}
+
+pub on_ok_both : {T E : Type 0} (P Q : Type 0) (r : Result T E) → OnOk r P → OnOk r Q → OnOk r (P × Q)
+on_ok_both P Q (Ok x) p q = (p, q)
+on_ok_both P Q (Err e) p q = tt

@@ -1,0 +1,10 @@
+use Rattle.member_set.specs.Members.{IsModerate}
+use Rattle.solve.specs.Refinement.{problem, LeadTo}
+use Rattle.solve.proofs.refinement.refine.Given as goal
+
+abbrev pub invariant-loop-turn : goal.invariant-loop-turn
+invariant-loop-turn l =
+    record {
+      lead : LeadTo (problem l.b l.laws l.loads l.f) l._turn l.u;
+      moderate : IsModerate l.u;
+    }

@@ -1,0 +1,20 @@
+use Rattle.std.proofs.Common.{arith}
+use Rattle.solve.proofs.Scaling.{scaled-step, scale-greatest, room-most}
+use Rattle.solve.proofs.refinement.scale_digits.Goals as goal
+
+pub loop-digits-preserved : goal.loop-digits-preserved
+loop-digits-preserved c =
+    record {
+      value = scaled-step c.largest-scaled.result c.loop-digits.scaled c.loop-digits.digits c.loop-digits.invariant.value;
+      room = omega arith;
+      at_most = omega arith;
+    }
+
+pub returns-else-scaled-clause-scale : goal.returns-else-scaled-clause-scale
+returns-else-scaled-clause-scale c =
+    record {
+      at_most = c.loop-digits.invariant.at_most;
+      room = room-most c.args.r.now c.largest-scaled.result c.loop-digits.scaled c.loop-digits.digits c.largest-scaled.ensures.bound c.loop-digits.invariant.value c.loop-digits.invariant.room;
+      greatest = λ d _ room.
+          scale-greatest c.args.r.now c.largest-scaled.result c.loop-digits.scaled c.loop-digits.digits d c.largest-scaled.ensures.reached c.loop-digits.invariant.value c.if-scaled.false room;
+    }

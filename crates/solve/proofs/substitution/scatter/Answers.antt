@@ -1,0 +1,32 @@
+use Rattle.std.proofs.Common.{◌<◌, get_or, length, refl, arith, rules, FitsSigned, to_z, of_z, to_z-of_z, pos}
+use Rattle.std.proofs.lemmas.Result.{err_from_is_err_and}
+use Rattle.std.proofs.lemmas.List.{get_or_read_under}
+use Rattle.std.specs.Int.{w64, w128}
+use Rattle.solve.specs.Numerators.{zero_numerator, TakesColumn}
+use Rattle.solve.proofs.ColumnsTaken.{scatter-step, scatter-beyond}
+use Rattle.solve.proofs.substitution.scatter.Goals as goal
+
+pub loop-v-preserved : goal.loop-v-preserved
+loop-v-preserved c =
+    let row = get_or c.args.rows.now c.loop-v.v 0 in
+    let in_range : row < length c.args.left.now = c.requires.in_range c.loop-v.v 0 c.loop-v-test.true in
+    let inside : row < length c.loop-v.left = omega (arith, c.loop-v.invariant.length_kept, in_range) in
+    let is = get_or_read_under c.loop-v.left row _ c.index-left-row.result zero_numerator c.index-left-row.is inside refl in
+    let entry_fits : FitsSigned w64 (get_or c.args.values.now c.loop-v.v (pos 0)) = search rules in
+    let value = rw (to_z-of_z entry_fits, is) at c.in_ok-left.ensures.value in
+    let size = rw (to_z-of_z entry_fits, is) at c.in_ok-left.ensures.size in
+    scatter-step c.args.left.now c.loop-v.left c.args.rows.now c.args.values.now c.args.j (to_z w128 (of_z w128 c.args.unknown)) c.loop-v.v c.in_ok-left.field-0
+    inside c.loop-v.invariant value size
+
+pub returns-in_err-left-clause-beyond : goal.returns-in_err-left-clause-beyond
+returns-in_err-left-clause-beyond c =
+    let p = err_from_is_err_and c.from_residual.result c.from_residual.ensures.1 in
+    let row = get_or c.args.rows.now c.loop-v.v 0 in
+    let in_range : row < length c.args.left.now = c.requires.in_range c.loop-v.v 0 c.loop-v-test.true in
+    let inside : row < length c.loop-v.left = omega (arith, c.loop-v.invariant.length_kept, in_range) in
+    let is = get_or_read_under c.loop-v.left row _ c.index-left-row.result zero_numerator c.index-left-row.is inside refl in
+    let entry_fits : FitsSigned w64 (get_or c.args.values.now c.loop-v.v (pos 0)) = search rules in
+    let before : TakesColumn c.args.left.now c.loop-v.left c.args.rows.now c.args.values.now c.args.j c.args.unknown c.loop-v.v =
+    rw (← to_z-of_z c.ranges.unknown) c.loop-v.invariant in
+    let broad = rw (to_z-of_z entry_fits, to_z-of_z c.ranges.unknown, is) at c.in_err-left.ensures.broad in
+    rw p.1 (scatter-beyond c.args.left.now c.loop-v.left c.args.rows.now c.args.values.now c.args.j c.args.unknown c.loop-v.v c.loop-v-test.true inside before broad)

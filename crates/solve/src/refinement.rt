@@ -1,0 +1,232 @@
+ghost use Rattle.std.specs.Prelude.{◌≡◌, ℕ, ◌+◌, ◌*◌, ◌/◌, ◌^◌, ◌<◌, ◌≤◌, ◌⊎◌, [], length, replicate, unsigned_abs, ℤ, pos, ◌+ℤ◌, ◌<ℤ◌, OnOk, OnErr, IfOk, Err};
+ghost use Rattle.member_set.specs.Members.{IsBuilt, FitsBuilt, IsModerate, row_count, node_count};
+ghost use Rattle.member_set.specs.Interval.{residual_of};
+ghost use Rattle.factor_data.specs.Columns.{entry};
+ghost use Rattle.factor_data.specs.Order.{IsOrder, freedom_at};
+ghost use Rattle.solve.specs.Numerators.{value_at, IsWhole};
+ghost use Rattle.solve.specs.Substitution.{at};
+ghost use Rattle.solve.specs.Refinement.{middle_of, AreMiddles, HasNoResidual, HasRoom, IsScale, HasNoRoom, forward_side, IsMoved, MovesTooFar, problem, IsTurn, TurnBreaks, LeadTo, IsCandidate, IsTooWide};
+
+use crate::fault::SolveFault;
+use crate::numerators::Numerator;
+use crate::substitution::{backward, forward, power_of_two};
+use factor_data::Factor;
+use flex_interval::{Iv, Wide, point};
+use member_set::{Built, Law, member_forces, residual_from};
+use std::alloc::Global;
+
+/// How many turns the refinement takes.
+const TURNS: usize = 8;
+
+/// Scaled residuals are below this in size.
+const ROOM: u128 = 1 << 106;
+
+/// Residuals are scaled by at most so many binary digits.
+const MOST_DIGITS: u32 = 56;
+
+/// By so many digits residuals and unknowns are scaled together.
+const ALL_DIGITS: u32 = 88;
+
+/// A displacement is at most this in size, in units of 2^-56 m or rad.
+const FARTHEST: u128 = 1 << 60;
+
+/// The displacements of each row, in units of 2^-56 m or rad, after eight turns of refinement from rest. The forces follow
+/// the laws of the members; no law is one-way, so there are no states. `f` is the factor of the middle stiffness matrix.
+pub fn candidate(
+    alloc: Global,
+    b: &Built,
+    laws: &[Law],
+    closed: &[bool],
+    loads: &[Iv],
+    f: &Factor,
+) -> Result<Vec<i128>, SolveFault>
+    requires built { IsBuilt b.now }
+    requires lists { FitsBuilt b.now laws.now loads.now }
+    requires no_one_way { b.now.unilateral ≡ [] }
+    requires no_states { closed.now ≡ [] }
+    requires factor { length f.now.order ≡ node_count b.now }
+    requires diagonal { (j : ℕ) → j < row_count b.now → pos 0 <ℤ entry f.now j j }
+    ensures ok { IfOk result (λ u. IsCandidate (problem b.now laws.now loads.now f.now) u.items) }
+    ensures wide { result ≡ Err SolveFault.Wide → IsTooWide (problem b.now laws.now loads.now f.now) }
+{
+    let rows = loads.len();
+    let mut u = vec![in alloc; 0; rows]?;
+    let mut forces = vec![in alloc; point(0); laws.len()]?;
+    let mut x = vec![in alloc; 0; rows]?;
+    let mut left = vec![in alloc; Numerator::ZERO; rows]?;
+    refine(b, laws, loads, f, &mut u, &mut forces, &mut x, &mut left)?;
+    Ok(u)
+}
+
+/// Eight turns, from displacements that are 0.
+fn refine(
+    b: &Built,
+    laws: &[Law],
+    loads: &[Iv],
+    f: &Factor,
+    u: &mut [i128],
+    forces: &mut [Iv],
+    x: &mut [i128],
+    left: &mut [Numerator],
+) -> Result<(), Wide>
+    requires built { IsBuilt b.now }
+    requires lists { FitsBuilt b.now laws.now loads.now }
+    requires factor { length f.now.order ≡ node_count b.now }
+    requires diagonal { (j : ℕ) → j < row_count b.now → pos 0 <ℤ entry f.now j j }
+    requires at_rest { u.old ≡ replicate (row_count b.now) (pos 0) }
+    requires one_force_each { length forces.old ≡ length b.now.members }
+    requires one_unknown_each { length x.old ≡ row_count b.now }
+    requires one_numerator_each { length left.old ≡ row_count b.now }
+    ensures candidate { OnOk result (IsCandidate (problem b.now laws.now loads.now f.now) u.new) }
+    ensures wide { OnErr result (IsTooWide (problem b.now laws.now loads.now f.now)) }
+{
+    for _turn in 0..TURNS {
+        turn(b, laws, loads, f, u, forces, x, left)?;
+    }
+    Ok(())
+}
+
+/// One turn. What `forces`, `x` and `left` hold before doesn't matter.
+fn turn(
+    b: &Built,
+    laws: &[Law],
+    loads: &[Iv],
+    f: &Factor,
+    u: &mut [i128],
+    forces: &mut [Iv],
+    x: &mut [i128],
+    left: &mut [Numerator],
+) -> Result<(), Wide>
+    requires built { IsBuilt b.now }
+    requires lists { FitsBuilt b.now laws.now loads.now }
+    requires factor { length f.now.order ≡ node_count b.now }
+    requires diagonal { (j : ℕ) → j < row_count b.now → pos 0 <ℤ entry f.now j j }
+    requires one_displacement_each { length u.old ≡ row_count b.now }
+    requires moderate { IsModerate u.old }
+    requires one_force_each { length forces.old ≡ length b.now.members }
+    requires one_unknown_each { length x.old ≡ row_count b.now }
+    requires one_numerator_each { length left.old ≡ row_count b.now }
+    ensures turned { OnOk result (IsTurn (problem b.now laws.now loads.now f.now) u.old u.new) }
+    ensures breaks { OnErr result (TurnBreaks (problem b.now laws.now loads.now f.now) u.old) }
+{
+    middles(b, laws, loads, u, forces, x)?;
+    let digits = scale_digits(x)?;
+    scale_sides(f.order(), x, digits, left);
+    forward(f, left, x)?;
+    backward(f, ALL_DIGITS - digits, x)?;
+    move_by(f.order(), x, u)
+}
+
+/// The middle of the residual of each row, in units of 2^-40 N or N m.
+fn middles(
+    b: &Built,
+    laws: &[Law],
+    loads: &[Iv],
+    u: &[i128],
+    forces: &mut [Iv],
+    r: &mut [i128],
+) -> Result<(), Wide>
+    requires built { IsBuilt b.now }
+    requires lists { FitsBuilt b.now laws.now loads.now }
+    requires one_displacement_each { length u.now ≡ row_count b.now }
+    requires moderate { IsModerate u.now }
+    requires one_force_each { length forces.old ≡ length b.now.members }
+    requires one_middle_each { length r.old ≡ row_count b.now }
+    ensures middles { OnOk result (AreMiddles (row_count b.now) (residual_of b.now laws.now loads.now u.now) r.new) }
+    ensures none { OnErr result (HasNoResidual (row_count b.now) (residual_of b.now laws.now loads.now u.now)) }
+{
+    member_forces(b, laws, u, forces)?;
+    for row in 0..r.len() {
+        r[row] = middle(residual_from(b, forces, loads, row as u32)?);
+    }
+    Ok(())
+}
+
+/// The middle of an interval, rounded down.
+fn middle(e: Iv) -> i128
+    ensures { result ≡ middle_of e }
+{
+    flex_num::floor_div(e.lo + e.hi, 2)
+}
+
+/// By how many digits numbers are scaled: as many as there is room for.
+fn scale_digits(r: &[i128]) -> Result<u32, Wide>
+    ensures scale { IfOk result (λ digits. IsScale r.now digits) }
+    ensures no_room { OnErr result (HasNoRoom r.now) }
+{
+    let mut scaled = largest(r);
+    if scaled >= ROOM {
+        return Err(Wide);
+    }
+    let mut digits = 0;
+    while digits < MOST_DIGITS && scaled < ROOM / 2 {
+        scaled *= 2;
+        digits += 1;
+    }
+    Ok(digits)
+}
+
+/// The largest size among numbers, 0 where there is none.
+fn largest(r: &[i128]) -> u128
+    ensures bound { (i : ℕ) → i < length r.now → unsigned_abs (at r.now i) ≤ result }
+    ensures reached { (result ≡ 0) ⊎ ((i : ℕ) × (i < length r.now) × (unsigned_abs (at r.now i) ≡ result)) }
+{
+    let mut most = 0;
+    for number in r {
+        most = most.max(number.unsigned_abs());
+    }
+    most
+}
+
+/// The row at a position of the order.
+fn row_at(order: &[u32], position: usize) -> usize
+    requires { position / 6 < length order.now }
+    ensures { result ≡ freedom_at order.now position }
+{
+    6 * order[position / 6] as usize + position % 6
+}
+
+/// The right side of the forward substitution: scaled numbers of rows, by positions.
+fn scale_sides(order: &[u32], r: &[i128], digits: u32, left: &mut [Numerator])
+    requires order { IsOrder order.now }
+    requires six_rows_each { length r.now ≡ 6 * length order.now }
+    requires one_each { length left.old ≡ length r.now }
+    requires at_most { digits ≤ 56 }
+    requires room { HasRoom r.now digits }
+    ensures sides { (j : ℕ) → j < length r.now → value_at left.new j ≡ forward_side order.now r.now digits j }
+    ensures whole { IsWhole left.new }
+{
+    let scale = power_of_two(digits);
+    for j in 0..r.len() {
+        left[j] = Numerator::scaled(r[row_at(order, j)], scale);
+    }
+}
+
+/// Adds unknowns, by positions, to displacements, by rows.
+fn move_by(order: &[u32], z: &[i128], u: &mut [i128]) -> Result<(), Wide>
+    requires order { IsOrder order.now }
+    requires six_rows_each { length z.now ≡ 6 * length order.now }
+    requires one_each { length u.old ≡ length z.now }
+    requires moderate { IsModerate u.old }
+    ensures moved { OnOk result (IsMoved (length z.now) order.now u.old z.now u.new) }
+    ensures moderate { OnOk result (IsModerate u.new) }
+    ensures too_far { OnErr result (MovesTooFar (length z.now) order.now u.old z.now) }
+{
+    for j in 0..z.len() {
+        let row = row_at(order, j);
+        u[row] = moved(u[row], z[j])?;
+    }
+    Ok(())
+}
+
+/// A displacement with an unknown added; `Wide` where it passes 2^60.
+fn moved(u: i128, z: i128) -> Result<i128, Wide>
+    ensures sum { IfOk result (λ v. v ≡ u +ℤ z) }
+    ensures moderate { IfOk result (λ v. unsigned_abs v ≤ 2 ^ 60) }
+    ensures passes { OnErr result (2 ^ 60 < unsigned_abs (u +ℤ z)) }
+{
+    match u.checked_add(z) {
+        Some(v) if v.unsigned_abs() <= FARTHEST => Ok(v),
+        _ => Err(Wide),
+    }
+}
