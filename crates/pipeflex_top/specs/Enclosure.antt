@@ -5,7 +5,7 @@ use Rattle.flex_interval.specs.Fraction.{Fraction, Within}
 use Rattle.pipeflex_top.specs.declared.one_straight.OneStraight.{OneStraight}
 use Rattle.pipeflex_top.specs.MemberTable.{members_of, stiffness_of}
 use Rattle.pipeflex_top.specs.OneStraight.{span_of}
-use Rattle.pipeflex_top.specs.Pi.{pi_ends}
+use Rattle.angle_table.specs.Pi.{pi_ends}
 use Rattle.pipeflex_top.specs.Straight.{IsLength, exact_axial, exact_torsion, exact_bending, exact_shear, square_difference, square_sum}
 
 -- the exact stiffnesses of the eight members in their order, in 2^-20 N/m, with p for pi in 2^-56 and l for the length in 2^-36 micrometre

@@ -1,7 +1,6 @@
 pub mod Enclosure
 pub mod MemberTable
 pub mod OneStraight
-pub mod Pi
 pub mod Reading
 pub mod Refusal
 pub mod Run

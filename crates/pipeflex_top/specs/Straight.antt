@@ -11,7 +11,7 @@ use Rattle.flex_interval.specs.Ends.{Ends}
 use Rattle.flex_interval.specs.Fraction.{Fraction, Within, scaled, over}
 use Rattle.flex_interval.specs.Operations.{and_then, or_wide, point_of, ratio_of, div_of, sqrt_of}
 use Rattle.pipeflex_top.specs.declared.stiffness.Kappas.{Kappas}
-use Rattle.pipeflex_top.specs.Pi.{pi_ends}
+use Rattle.angle_table.specs.Pi.{pi_ends}
 
 -- ---- the ranges of a model's numbers
 pub record IsMaterial (young poisson : ℤ) : Type 0 where

@@ -3,7 +3,6 @@
 
 pub mod member_table;
 pub mod one_straight;
-mod pi;
 mod program;
 mod reading;
 mod reply;

@@ -1,11 +1,11 @@
 // The stiffnesses of a straight pipe along an axis.
 ghost use Rattle.std.specs.Prelude.{◌≡◌, ◌*◌, ◌^◌, pos, ◌+ℤ◌, ◌*ℤ◌, ◌≤ℤ◌, ◌<ℤ◌, IfOk};
 ghost use Rattle.flex_interval.specs.Fraction.{Fraction, Within};
-ghost use Rattle.pipeflex_top.specs.Pi.{pi_ends};
+ghost use Rattle.angle_table.specs.Pi.{pi_ends};
 ghost use Rattle.pipeflex_top.specs.Straight.{IsMaterial, IsTube, IsSpan, inside_diameter, square_difference, square_sum, length_of, axial_of, in_limits, all_in_limits, stiffness_of, kappas_of, exact_axial, Encloses, EnclosesStraight, IsLength};
 
-use crate::pi::pi;
 use crate::stiffness::Kappas;
+use angle_table::pi;
 use flex_interval::{Iv, IvFault, Wide, div, point, ratio, root};
 
 /// The stiffnesses of a straight whose ends are `span` micrometres apart along one axis: Young's modulus in MPa,

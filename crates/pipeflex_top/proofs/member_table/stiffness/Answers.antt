@@ -8,7 +8,7 @@ use Rattle.pipeflex_top.specs.declared.stiffness.Kappas.{Kappas}
 use Rattle.pipeflex_top.specs.Enclosure.{exact_members}
 use Rattle.pipeflex_top.specs.MemberTable.{members_of}
 use Rattle.pipeflex_top.specs.OneStraight.{span_of}
-use Rattle.pipeflex_top.specs.Pi.{pi_ends}
+use Rattle.angle_table.specs.Pi.{pi_ends}
 use Rattle.pipeflex_top.specs.Straight.{EnclosesStraight, IsLength}
 use Rattle.pipeflex_top.proofs.member_table.stiffness.Goals as goal
 

@@ -1,14 +1,13 @@
--- The enclosure of pi that every tube value comes from.
+-- The enclosure of pi that every tube value and every arc comes from.
 use Rattle.std.specs.Prelude.{◌^◌, pos, ◌*ℤ◌, ◌≤ℤ◌, ◌<ℤ◌}
 use Rattle.flex_interval.specs.Ends.{Ends}
 use Rattle.flex_interval.specs.Fraction.{Fraction}
-use Rattle.flex_interval.specs.Operations.{ends}
 
 -- pi in 2^-56
 abbrev pub pi_ends : Ends
-pi_ends = ends (pos 226375608064910088) (pos 226375608064910089)
+pi_ends = record { lo = pos 226375608064910088; hi = pos 226375608064910089 }
 
--- x lies between pi cut after its twentieth decimal and the next decimal
+-- x lies between pi cut after its twentieth decimal and the next number of twenty decimals
 pub record IsPi (x : Fraction) : Type 0 where
   pub defined : pos 0 <ℤ x.den
   pub at_least : (pos 314159265358979323846 *ℤ x.den) ≤ℤ (x.num *ℤ pos (10 ^ 20))

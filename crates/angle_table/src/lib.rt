@@ -1,11 +1,14 @@
-ghost use Rattle.std.specs.Prelude.{◌≡◌, ◌*◌, ◌^◌, pos, ◌*ℤ◌};
+//! Enclosures of pi.
+#![tactic(auto)]
+
+ghost use Rattle.std.specs.Prelude.{◌≡◌, ◌*◌, ◌^◌, pos};
 ghost use Rattle.flex_num.specs.Division.{floor_of, ceil_of};
 ghost use Rattle.flex_interval.specs.Fraction.{Fraction, Within, scaled};
-ghost use Rattle.pipeflex_top.specs.Pi.{pi_ends, IsPi};
+ghost use Rattle.angle_table.specs.Pi.{pi_ends, IsPi};
 
 use flex_interval::Iv;
 
-/// Pi in 2^-56.
+/// Pi, in units of 2^-56.
 pub fn pi() -> Iv
     ensures value { result ≡ pi_ends }
     ensures lo { result.lo ≡ floor_of (pos (314159265358979323846 * 2 ^ 56)) (pos (10 ^ 20)) }

@@ -2,7 +2,7 @@ use Rattle.std.proofs.Common.{refl, arith}
 use Rattle.std.proofs.lemmas.Int.{ints}
 use Rattle.flex_num.specs.Division.{floor_of, ceil_of}
 use Rattle.flex_interval.specs.Fraction.{scaled}
-use Rattle.pipeflex_top.proofs.pi.pi.Goals as goal
+use Rattle.angle_table.proofs.pi.Goals as goal
 
 pub returns-clause-lo : goal.returns-clause-lo
 unfolding floor_of
