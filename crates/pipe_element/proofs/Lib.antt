@@ -1,0 +1,9 @@
+pub mod Readings
+pub mod Products
+pub mod CrossProducts
+pub mod MemberSums
+pub mod Balances
+pub mod BeamLaw
+pub mod WayLemmas
+pub mod Enclosures
+pub mod TubeLemmas

@@ -1,0 +1,17 @@
+use Rattle.std.proofs.Common.{rules, ◌≡◌, arith, ap, sym, ◌∙◌, ℤ, pos, ◌*ℤ◌, FitsSigned, to_z, of_z, to_z-of_z}
+use Rattle.std.proofs.lemmas.Int.{ints}
+use Rattle.std.proofs.lemmas.Result.{IfOk-weaker, err_from_is_err_and}
+use Rattle.std.specs.Int.{w64, w128}
+use Rattle.flex_interval.specs.Fraction.{Fraction, Within}
+use Rattle.pipe_element.proofs.shapes.enclose_shapes.Goals as goal
+
+pub returns-clause-within : goal.returns-clause-within
+returns-clause-within c = λ l in_l.
+    let t = c.in_ok-tangent.ensures.within l in_l in
+    let half = c.in_ok-half.ensures.within l in_l in
+    record {
+      tangent = t;
+      x_arm = c.in_ok-x_arm.ensures.within l half t.x;
+      y_arm = c.in_ok-y_arm.ensures.within l half t.y;
+      z_arm = c.in_ok-z_arm.ensures.within l half t.z;
+    }

@@ -1,0 +1,13 @@
+use Rattle.std.proofs.Common.{rules, ◌≡◌, arith, ap, sym, ◌∙◌, ℤ, pos, ◌*ℤ◌, FitsSigned, to_z, of_z, to_z-of_z}
+use Rattle.std.proofs.lemmas.Int.{ints}
+use Rattle.std.proofs.lemmas.Result.{IfOk-weaker, err_from_is_err_and}
+use Rattle.std.specs.Int.{w64, w128}
+use Rattle.flex_interval.specs.Fraction.{Fraction, Within}
+use Rattle.pipe_element.proofs.shapes.tangent_part.Goals as goal
+
+pub returns-clause-within : goal.returns-clause-within
+returns-clause-within c =
+    let fits : FitsSigned w64 c.args.part = c.ranges.part in
+    IfOk-weaker c.div.result _ _
+    (λ e encloses l in_l. encloses _ l (rw (to_z-of_z fits) at c.raised.ensures.within) in_l)
+    c.div.ensures.within

@@ -1,0 +1,14 @@
+use Rattle.std.proofs.Common.{to_z-of_z}
+use Rattle.std.proofs.lemmas.Result.{IfOk-weaker}
+use Rattle.pipe_element.specs.Stiffnesses.{exact_axial}
+use Rattle.pipe_element.proofs.stiffness.axial.Goals as goal
+
+pub returns-clause-within : goal.returns-clause-within
+unfolding exact_axial
+returns-clause-within c =
+    IfOk-weaker c.div.result _ _
+    (λ e encloses p l in_p in_l.
+    let load = c.in_ok-load.ensures.within p (rw c.pi.ensures.value in_p) in
+    let lengths = c.in_ok-lengths.ensures.within l in_l in
+    encloses _ _ (rw (to_z-of_z c.ranges.load) at load) lengths)
+    c.div.ensures.within
