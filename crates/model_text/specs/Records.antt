@@ -1,5 +1,5 @@
 -- The records: what a line's words give, or the number that refuses them.
-use Rattle.std.specs.Prelude.{ℕ, ◌==◌, ◌||◌, not, Bool, List, length, Option, None, Result, Ok, Err, if◌then◌else◌, unwrap_or, codes}
+use Rattle.std.specs.Prelude.{ℕ, ◌==◌, ◌||◌, not, Bool, List, length, Result, Ok, Err, if◌then◌else◌, unwrap_or, codes}
 use Rattle.std.specs.Str.{bytes_eq}
 use Rattle.model_types.specs.declared.records.Shape.TheVariants.{Straight}
 use Rattle.model_types.specs.declared.records.RestraintKind.{RestraintKind}

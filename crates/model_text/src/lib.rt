@@ -9,5 +9,5 @@ mod tests;
 mod words;
 mod writer;
 
-pub use reader::{TextFault, read};
+pub use reader::{TextFault, node_line, read};
 pub use writer::echo;

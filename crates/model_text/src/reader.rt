@@ -1,6 +1,7 @@
 //! The reader of the model text.
-ghost use Rattle.std.specs.Prelude.{◌≡◌, ◌≤◌, ℕ, length, Ok, Err, OnOk, IfOk};
+ghost use Rattle.std.specs.Prelude.{◌≡◌, ◌<◌, ◌⊎◌, IsOkAnd, ◌≤◌, ℕ, length, Ok, Err, OnOk, IfOk};
 ghost use Rattle.model_types.specs.Ranges.{InForm};
+ghost use Rattle.model_types.specs.Rules.{IsModel};
 ghost use Rattle.model_text.specs.Lines as line_of;
 ghost use Rattle.model_text.specs.Grammar as grammar;
 ghost use Rattle.model_text.specs.Words.{words};
@@ -8,7 +9,7 @@ ghost use Rattle.text_words.specs.Fields.{lines};
 
 use crate::records::record_of_words;
 use crate::words::{count, is_allowed, word};
-use model_types::{AddFault, Bounds, Case, Draft, Model, NoMemory, Record};
+use model_types::{AddFault, Bounds, Case, Draft, Model, NoMemory, NodeId, Record, Space};
 use std::alloc::{AllocError, Global};
 use text_words::cut_line;
 use thiserror::Error;
@@ -52,6 +53,21 @@ pub fn read(alloc: Global, text: &[u8]) -> Result<Model, TextFault>
     ensures model { IfOk result (λ model. grammar.parsed text.now ≡ Ok model) }
     ensures refused { (number line : ℕ) → result ≡ Err (TextFault.Refused number line)
         → grammar.parsed text.now ≡ Err (record { number = number; line = line }) }
+
+    // The model keeps the rules, and a refusal tells the first faulty line or what the whole text lacks.
+    ensures rules { IfOk result IsModel }
+    ensures fault { (number line : ℕ) → result ≡ Err (TextFault.Refused number line)
+        → grammar.IsFault text.now number line ⊎ grammar.IsWholeFault text.now number line }
+{
+    read_lines(alloc, text)
+}
+
+// Reads a text.
+fn read_lines(alloc: Global, text: &[u8]) -> Result<Model, TextFault>
+    ensures model { IfOk result (λ model. grammar.parsed text.now ≡ Ok model) }
+    ensures refused { (number line : ℕ) → result ≡ Err (TextFault.Refused number line)
+        → grammar.parsed text.now ≡ Err (record { number = number; line = line }) }
+    ensures rules { IfOk result IsModel }
 {
     if text.len() > LONGEST_TEXT {
         return Err(TextFault::Refused { number: 1, line: 1 });
@@ -69,6 +85,7 @@ pub fn read(alloc: Global, text: &[u8]) -> Result<Model, TextFault>
 
 // The model of all lines.
 fn whole(reading: Reading) -> Result<Model, TextFault>
+    ensures rules { IfOk result IsModel }
     ensures model { IfOk result (λ model. grammar.whole (Ok reading) ≡ Ok model) }
     ensures refused { (number line : ℕ) → result ≡ Err (TextFault.Refused number line)
         → grammar.whole (Ok reading) ≡ Err (record { number = number; line = line }) }
@@ -103,6 +120,43 @@ fn take_lines(reading: &mut Reading, text: &[u8]) -> Result<(), TextFault>
         line += 1;
     }
     Ok(())
+}
+
+/// The line, counted from 1, of the node of that number in an accepted text.
+pub fn node_line(alloc: Global, text: &[u8], node: NodeId) -> Result<u32, NoMemory>
+    requires { IsOkAnd (grammar.parsed text.now) (λ model. node.0 < length model.nodes) }
+    ensures { IfOk result (grammar.IsLineOfNode text.now node.0) }
+{
+    let draft = Draft::new(alloc)?;
+    let mut reading = Reading {
+        header: false,
+        draft,
+    };
+    line_of_node(&mut reading, text, node)
+}
+
+// The line that makes the node of that number, of a text that nothing has been read of.
+fn line_of_node(reading: &mut Reading, text: &[u8], node: NodeId) -> Result<u32, NoMemory>
+    requires accepted { IsOkAnd (grammar.parsed text.now) (λ model. node.0 < length model.nodes) }
+    requires fresh { reading.old ≡ line_of.start }
+    ensures { IfOk result (grammar.IsLineOfNode text.now node.0) }
+{
+    let mut rest = Some(text);
+    let mut line = 1;
+    while let Some(left) = rest {
+        let (front, behind) = cut_line(left);
+        match take_line(reading, front) {
+            Ok(()) => {}
+            Err(AddFault::NoMemory) => return Err(AllocError),
+            Err(AddFault::Refused(_)) => unreachable!(),
+        }
+        if reading.draft.count(Space::Node) > node.0 as usize {
+            return Ok(line);
+        }
+        rest = behind;
+        line += 1;
+    }
+    unreachable!()
 }
 
 // The fault of a line.

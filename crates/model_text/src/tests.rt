@@ -1,5 +1,6 @@
 //! The base text, its canonical form, and each refusal.
 use crate::*;
+use model_types::NodeId;
 use std::alloc::Global;
 use std::process::Abort;
 
@@ -101,6 +102,18 @@ fn reads_what_it_may(rt: HostRuntime) {
 fn refuses_a_long_text(rt: HostRuntime) {
     let text = vec![in rt.alloc(); b' '; 4_194_305].expect(&rt, "memory");
     assert_eq!(rt; refusal(&rt, rt.alloc(), text.as_slice()), Some((1, 1)));
+}
+
+#[test]
+fn finds_the_line_of_a_node(rt: HostRuntime) {
+    let text = BASE.as_bytes();
+    let model = read(rt.alloc(), text).expect(&rt, "a model");
+    if model.nodes().len() > 1 {
+        let line = node_line(rt.alloc(), text, NodeId(1)).expect(&rt, "memory");
+        assert_eq!(rt; line, 5);
+    } else {
+        panic!(rt; "a node is missing");
+    }
 }
 
 // The canonical text of the model of a text.

@@ -1,5 +1,5 @@
-use Rattle.std.proofs.Common.{arith, ◌≡◌, ℕ, ◌+◌, ◌∷◌, List, length, Err, Ok, option_copied, sym, ap, ◌∙◌}
-use Rattle.text_words.specs.Fields.{lines, lines_left}
+use Rattle.std.proofs.Common.{arith, ◌≡◌, ◌∷◌, length, Err, option_copied, sym, ap, ◌∙◌}
+use Rattle.text_words.specs.Fields.{lines_left}
 use Rattle.model_text.specs.Grammar.{after_lines}
 use Rattle.model_text.specs.declared.reader.TextFault.TheVariants as text_fault
 use Rattle.model_text.proofs.LineLemmas.{after_lines-nil, after_lines-Ok, after_lines-Err, at_line-Refused, length-lines}

@@ -1,4 +1,4 @@
-use Rattle.std.proofs.Common.{◌≡◌, ℕ, ◌+◌, length, option_copied}
+use Rattle.std.proofs.Common.{◌≡◌, ◌+◌, length, option_copied}
 use Rattle.text_words.specs.Fields.{lines, lines_left}
 use Rattle.model_text.specs.Grammar.{after_lines}
 use Rattle.model_text.proofs.reader.take_lines.Given as goal

@@ -1,6 +1,3 @@
-use Rattle.std.proofs.Common.{rules, arith, ◌≡◌}
-use Rattle.std.proofs.lemmas.Grind.{common_steps}
-use Rattle.std.proofs.lemmas.List.Sums.{prefix_len-le-length}
 use Rattle.model_text.proofs.WordLemmas.{before_first-Some, before_first-None}
 use Rattle.model_text.specs.Words.{starts_comment}
 use Rattle.model_text.proofs.words.before_comment.Goals as goal

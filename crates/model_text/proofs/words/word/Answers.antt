@@ -1,4 +1,4 @@
-use Rattle.std.proofs.Common.{[], ◌≡◌}
+use Rattle.std.proofs.Common.{[]}
 use Rattle.model_text.proofs.WordLemmas.{slice_index_or-found, slice_index_or-past}
 use Rattle.model_text.specs.Words.{words}
 use Rattle.model_text.proofs.words.word.Goals as goal
