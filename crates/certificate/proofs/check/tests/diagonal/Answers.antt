@@ -1,9 +1,9 @@
-use Rattle.std.proofs.Common.{arith, ap, refl, subst, sym, ◌∙◌, ◌≡◌, ◌<◌, ◌≤◌, ◌+◌, ◌/◌, ◌^◌, ◌⊎◌, inl, inr, ℕ, ℤ, pos, ◌+ℤ◌, ◌≤ℤ◌, ◌<ℤ◌, length, List, [], get_or, slice_index_or, Contains, to_z, of_z}
+use Rattle.std.proofs.Common.{arith, ap, refl, subst, sym, ◌∙◌, ◌≡◌, ◌<◌, ◌≤◌, ◌+◌, ◌/◌, ◌%◌, ◌^◌, ◌⊎◌, inl, inr, ℕ, ℤ, pos, ◌+ℤ◌, ◌≤ℤ◌, ◌<ℤ◌, length, List, [], get_or, slice_index_or, Contains, to_z, of_z}
 use mir.Syntax.{w128}
 use Rattle.std.proofs.lemmas.Int.{ints}
 use Rattle.std.proofs.lemmas.Bool.{cases_eq}
 use Rattle.int_laws.proofs.Sums.{int_sums}
-use Rattle.sym_blocks.specs.Matrix.{Matrix, entry, HasBlock, AddsAt}
+use Rattle.sym_blocks.specs.Matrix.{Matrix, entry, AddsAt}
 use Rattle.certificate.proofs.check.tests.diagonal.Goals as goal
 
 -- an entry after a write on the diagonal
@@ -32,43 +32,39 @@ fresh_after old new f v adds fresh i after =
     elim (added old new f v adds i i) [ inl at ↦ absurd (omega (arith, at.0)) | inr kept ↦ kept ∙ fresh i (omega arith) ]
 
 pub add-requires-clause-in_pattern : goal.add-requires-clause-in_pattern
-add-requires-clause-in_pattern c =
-    let node : 0 ≡ c.loop-freedom.freedom / 6 = omega arith in
-    let P : ℕ → Type 0 = λ n. HasBlock c.loop-freedom.matrix n n in
-    subst P node c.loop-freedom.invariant.block
+add-requires-clause-in_pattern c = c.loop-row.invariant.block (c.loop-row.row / 6) (omega arith)
 
 pub add-requires-clause-small : goal.add-requires-clause-small
 add-requires-clause-small c =
-    omega (arith, ints, c.from.ensures, c.loop-freedom.invariant.fresh c.loop-freedom.freedom (omega arith))
+    omega (arith, ints, c.from.ensures, c.loop-row.invariant.fresh c.loop-row.row (omega arith))
 
-pub loop-freedom-init : goal.loop-freedom-init
-loop-freedom-init c =
+pub loop-row-init : goal.loop-row-init
+loop-row-init c =
     let zero = c.in_ok-matrix.ensures.zero in
     record {
       nodes = c.in_ok-matrix.ensures.nodes;
-      block = (c.in_ok-matrix.ensures.pattern 0 0).1 (inl (refl, omega arith));
+      block = λ n h. (c.in_ok-matrix.ensures.pattern n n).1 (inl (refl, h));
       not_negative = λ i j. omega (arith, int_sums, c.in_ok-matrix.ensures.zero i j);
       small = λ i j. omega (arith, int_sums, c.in_ok-matrix.ensures.zero i j);
       fresh = λ i _. c.in_ok-matrix.ensures.zero i i;
     }
 
-pub loop-freedom-preserved : goal.loop-freedom-preserved
-loop-freedom-preserved c =
-    let old = c.loop-freedom.matrix in
+pub loop-row-preserved : goal.loop-row-preserved
+loop-row-preserved c =
+    let old = c.loop-row.matrix in
     let new = c.add.new.self in
-    let freedom = c.loop-freedom.freedom in
-    let v = get_or c.args.values c.loop-freedom.freedom 0 in
-    let small : get_or c.args.values c.loop-freedom.freedom 0 < 2 ^ 32 = omega (arith, c.loop-freedom-test.element_fits) in
-    let value : to_z w128 (of_z w128 c.from.result) ≡ pos (get_or c.args.values c.loop-freedom.freedom 0) = omega (arith, ints, c.from.ensures, small) in
-    let P : ℤ → Type 0 = λ z. AddsAt c.loop-freedom.matrix c.add.new.self c.loop-freedom.freedom c.loop-freedom.freedom z in
+    let row = c.loop-row.row in
+    let v = get_or c.args.values (c.loop-row.row % 6) 0 in
+    let small : get_or c.args.values (c.loop-row.row % 6) 0 < 2 ^ 32 = omega (arith, c.loop-row-test.element_fits) in
+    let value : to_z w128 (of_z w128 c.from.result) ≡ pos (get_or c.args.values (c.loop-row.row % 6) 0) = omega (arith, ints, c.from.ensures, small) in
+    let P : ℤ → Type 0 = λ z. AddsAt c.loop-row.matrix c.add.new.self c.loop-row.row c.loop-row.row z in
     let adds = subst P value c.add.ensures in
-    let kept = c.loop-freedom.invariant in
-    let range = in_range old new freedom (pos (get_or c.args.values c.loop-freedom.freedom 0)) adds (kept.fresh freedom (omega arith)) (omega (arith, int_sums)) (omega (arith, int_sums, small)) kept.not_negative kept.small in
-    let Q : List (List ℕ) → Type 0 = λ pattern. Contains (slice_index_or pattern 0 []) 0 in
+    let kept = c.loop-row.invariant in
+    let range = in_range old new row (pos (get_or c.args.values (c.loop-row.row % 6) 0)) adds (kept.fresh row (omega arith)) (omega (arith, int_sums)) (omega (arith, int_sums, small)) kept.not_negative kept.small in
     record {
       nodes = ap (λ (p : List (List ℕ)). length p) adds.pattern ∙ kept.nodes;
-      block = subst Q (sym adds.pattern) kept.block;
+      block = λ n h. let Q : List (List ℕ) → Type 0 = λ pattern. Contains (slice_index_or pattern n []) n in subst Q (sym adds.pattern) (kept.block n h);
       not_negative = λ i j. (range i j).0;
       small = λ i j. (range i j).1;
-      fresh = fresh_after old new freedom (pos (get_or c.args.values c.loop-freedom.freedom 0)) adds kept.fresh;
+      fresh = fresh_after old new row (pos (get_or c.args.values (c.loop-row.row % 6) 0)) adds kept.fresh;
     }
