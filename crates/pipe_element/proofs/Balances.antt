@@ -1,7 +1,7 @@
 -- Products of the factors of the stiffnesses and shape vectors, in the orders in which they meet.
 --
 -- ld / ln is one by the length, and s the square of the span: ln^2 = 2^72 s ld^2.
-use Rattle.std.proofs.Common.{◌≡◌, ℕ, ◌*◌, ◌^◌, List, [], ◌∷◌, refl, ap, sym, ◌∙◌, ℤ, pos, ◌*ℤ◌}
+use Rattle.std.proofs.Common.{◌≡◌, ◌*◌, ◌^◌, [], ◌∷◌, refl, ap, sym, ◌∙◌, ℤ, pos, ◌*ℤ◌}
 use Rattle.pipe_element.proofs.Products.{factor, both, same_factors, of_list}
 use Rattle.pipe_element.proofs.MemberSums.{double, double_square}
 

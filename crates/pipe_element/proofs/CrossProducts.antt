@@ -1,8 +1,8 @@
 -- The cross product of a vector with the axes, and the sums over the axes that the members' shape vectors make.
-use Rattle.std.proofs.Common.{◌≡◌, ℕ, refl, ap, sym, ◌∙◌, arith, ℤ, pos, ◌+ℤ◌, ◌-ℤ◌, ◌*ℤ◌, neg_ℤ}
+use Rattle.std.proofs.Common.{◌≡◌, ap, sym, ◌∙◌, arith, ℤ, pos, ◌+ℤ◌, ◌-ℤ◌, ◌*ℤ◌, neg_ℤ}
 use Rattle.std.proofs.lemmas.Int.{ints}
 use Rattle.int_laws.proofs.Sums.{int_sums}
-use Rattle.int_laws.proofs.Products.{mul_comm, mul_assoc, mul_mul_mul_comm, add-mul, mul-add, sub-mul, mul-sub, neg-mul, mul-neg, zero-mul}
+use Rattle.int_laws.proofs.Products.{mul_comm, mul_assoc, mul_mul_mul_comm, add-mul, sub-mul, mul-sub, neg-mul, mul-neg, zero-mul}
 use Rattle.pipe_element.specs.Axes.{Axis, x_axis, y_axis, z_axis, where_equal}
 use Rattle.pipe_element.specs.Span.{Span, square_of}
 

@@ -1,5 +1,5 @@
 -- The shape numbers of a member enclose its exact shape vector.
-use Rattle.std.proofs.Common.{◌≡◌, ℕ, List, refl, sym, subst, arith, ℤ, pos, ◌+ℤ◌, ◌*ℤ◌, neg_ℤ, ◌≤ℤ◌, ◌<ℤ◌, slice_index_or, Bool, true, false, Result, Ok, Err, IfOk}
+use Rattle.std.proofs.Common.{◌≡◌, List, refl, subst, arith, pos, ◌+ℤ◌, ◌*ℤ◌, slice_index_or, Bool, true, false, Ok, Err, IfOk}
 use Rattle.std.proofs.lemmas.Int.{ints}
 use Rattle.int_laws.proofs.Sums.{int_sums}
 use Rattle.int_laws.proofs.Products.{neg-mul}
@@ -8,11 +8,11 @@ use Rattle.flex_interval.specs.Fraction.{Fraction, Within, whole, negated}
 use Rattle.flex_interval.specs.Operations.{neg_of}
 use Rattle.pipe_element.specs.Axes.{Axis, x_axis, y_axis, z_axis, Motion, translation, rotation, End, from_end, to_end, place_of}
 use Rattle.pipe_element.specs.Span.{Span, square_of}
-use Rattle.pipe_element.specs.ExactStraight.{Tube, Mode, axial, torsion, bending, shear, tangent, crossed, lever_arm, shape_of, axial_stiffness, bending_stiffness, torsion_stiffness, shear_stiffness}
+use Rattle.pipe_element.specs.ExactStraight.{Tube, axial, torsion, bending, shear, tangent, crossed, lever_arm, shape_of, axial_stiffness, bending_stiffness, torsion_stiffness, shear_stiffness}
 use Rattle.pipe_element.specs.Vectors.{nothing, zero_vector, negative_of, crossed_of, shape_numbers, EnclosesVector}
 use Rattle.pipe_element.specs.Shapes.{EnclosesShapes}
 use Rattle.pipe_element.specs.Stiffnesses.{exact_axial, EnclosesStiffness}
-use Rattle.pipe_element.specs.Straight.{arm_of, members_of, EnclosesShape, EnclosesMember, EnclosesStraight, limited}
+use Rattle.pipe_element.specs.Straight.{arm_of, members_of, EnclosesShape, EnclosesStraight, limited}
 use Rattle.pipe_element.specs.declared.shapes.Shapes.{Shapes}
 use Rattle.pipe_element.specs.declared.stiffness.Stiffness.{Stiffness}
 use Rattle.model_types.specs.declared.records.Element.{Element}

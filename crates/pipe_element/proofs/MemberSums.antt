@@ -1,13 +1,12 @@
 -- The members' sum, in whole numbers: stiffnesses by numerators A, T, B and V, and shape vectors by whole parts.
-use Rattle.std.proofs.Common.{◌≡◌, ℕ, ◌*◌, ◌^◌, List, [], ◌∷◌, refl, ap, sym, ◌∙◌, arith, ℤ, pos, negsuc, ◌+ℤ◌, ◌-ℤ◌, ◌*ℤ◌, neg_ℤ}
-use Rattle.std.proofs.lemmas.Int.{ints}
+use Rattle.std.proofs.Common.{◌≡◌, ◌*◌, ◌^◌, [], ◌∷◌, refl, ap, sym, ◌∙◌, arith, ℤ, pos, negsuc, ◌+ℤ◌, ◌*ℤ◌}
 use Rattle.int_laws.proofs.Sums.{int_sums}
-use Rattle.int_laws.proofs.Products.{mul_comm, mul_assoc, mul-add, add-mul, mul-neg}
+use Rattle.int_laws.proofs.Products.{mul_comm, mul_assoc, mul-add, add-mul}
 use Rattle.pipe_element.specs.Axes.{Axis, x_axis, y_axis, z_axis, Motion, translation, rotation, End, from_end, to_end}
 use Rattle.pipe_element.specs.Span.{Span, square_of}
 use Rattle.pipe_element.specs.ExactStraight.{Mode, axial, torsion, bending, shear}
 use Rattle.pipe_element.proofs.CrossProducts.{cross, lever, sum_of, cross_cross, cross_lever, lever_lever, mul-zero}
-use Rattle.pipe_element.proofs.Products.{Product, factor, both, same_factors, of_list}
+use Rattle.pipe_element.proofs.Products.{factor, both, same_factors, of_list}
 
 -- twice the number of micrometres in a metre
 abbrev pub double : ℤ

@@ -1,5 +1,5 @@
 -- The squares of a pipe's diameters are in range.
-use Rattle.std.proofs.Common.{◌≡◌, arith, ℤ, pos, ◌-ℤ◌, ◌*ℤ◌, ◌≤ℤ◌, ◌<ℤ◌, false}
+use Rattle.std.proofs.Common.{arith, pos, ◌≤ℤ◌, false}
 use Rattle.std.proofs.lemmas.Int.{ints}
 use Rattle.int_laws.proofs.Sums.{int_sums}
 use Rattle.int_laws.proofs.Products.{square_le, square_nonnegative}

@@ -1,11 +1,10 @@
 -- The way between two nodes is as long as their distance, so each of its parts is in range.
-use Rattle.std.proofs.Common.{◌≡◌, ℕ, ◌+◌, ◌*◌, ◌<◌, ◌≤◌, refl, ap, sym, ◌∙◌, arith, ℤ, pos, negsuc, ◌+ℤ◌, ◌-ℤ◌, ◌*ℤ◌, neg_ℤ, ◌≤ℤ◌, ◌<ℤ◌, unsigned_abs}
-use Rattle.std.proofs.lemmas.Int.{ints, by_lt_z}
+use Rattle.std.proofs.Common.{◌≡◌, ◌*◌, refl, arith, ℤ, pos, negsuc, ◌-ℤ◌, ◌*ℤ◌, neg_ℤ, ◌≤ℤ◌, unsigned_abs}
 use Rattle.int_laws.proofs.Sums.{int_sums}
 use Rattle.int_laws.proofs.Products.{square_nonnegative, le_of_square, neg-mul, mul-neg}
 use Rattle.model_types.specs.declared.records.Node.{Node}
 use Rattle.model_types.specs.Ranges.{IsIn, of_size}
-use Rattle.model_types.specs.Rules.{IsSpan, square_distance, square_difference}
+use Rattle.model_types.specs.Rules.{IsSpan, square_distance}
 use Rattle.pipe_element.specs.Span.{square_of}
 use Rattle.pipe_element.specs.Vectors.{way_of, parts_of, IsWay}
 

@@ -1,5 +1,5 @@
 -- The eight members of a straight, read exactly: for any value of pi and any length, with no rounding.
-use Rattle.std.specs.Prelude.{ℕ, ◌^◌, ◌*◌, ℤ, pos, ◌+ℤ◌, ◌*ℤ◌}
+use Rattle.std.specs.Prelude.{◌^◌, ◌*◌, ℤ, pos, ◌+ℤ◌, ◌*ℤ◌}
 use Rattle.flex_interval.specs.Fraction.{Fraction, whole, negated, scaled, over, minus}
 use Rattle.pipe_element.specs.Axes.{Axis, x_axis, y_axis, z_axis, Motion, translation, rotation, End, from_end, to_end, where_equal}
 use Rattle.pipe_element.specs.Span.{Span, square_of}

@@ -1,5 +1,5 @@
 -- The interval that each step of a straight answers, or its fault, operation by operation.
-use Rattle.std.specs.Prelude.{ℕ, ◌*◌, ◌^◌, Bool, ◌&&◌, ℤ, pos, neg_ℤ, ◌*ℤ◌, int_le, int_lt, Result, Ok}
+use Rattle.std.specs.Prelude.{◌*◌, ◌^◌, Bool, ◌&&◌, ℤ, pos, neg_ℤ, ◌*ℤ◌, int_le, int_lt, Result, Ok}
 use Rattle.flex_interval.specs.declared.fault.IvFault.{IvFault}
 use Rattle.flex_interval.specs.Ends.{Ends}
 use Rattle.flex_interval.specs.Operations.{and_then, point_of, neg_of, sub_of, ratio_of, div_of, sqrt_of}

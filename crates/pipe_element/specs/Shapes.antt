@@ -1,6 +1,6 @@
 -- What the shape vectors are made of, and what it encloses.
-use Rattle.std.specs.Prelude.{ℕ, ◌*◌, ◌^◌, ℤ, pos}
-use Rattle.flex_interval.specs.Fraction.{Fraction, Within, scaled}
+use Rattle.std.specs.Prelude.{◌*◌, ◌^◌, pos}
+use Rattle.flex_interval.specs.Fraction.{Fraction, scaled}
 use Rattle.pipe_element.specs.Axes.{Axis, x_axis, y_axis, z_axis}
 use Rattle.pipe_element.specs.Span.{Span}
 use Rattle.pipe_element.specs.ExactStraight.{tangent, lever_arm}

@@ -1,5 +1,5 @@
 -- The way from an element's first node to its second, in micrometres.
-use Rattle.std.specs.Prelude.{ℕ, ◌^◌, ◌≡◌, ℤ, pos, ◌+ℤ◌, ◌*ℤ◌, ◌<ℤ◌}
+use Rattle.std.specs.Prelude.{◌^◌, ◌≡◌, ℤ, pos, ◌+ℤ◌, ◌*ℤ◌, ◌<ℤ◌}
 use Rattle.flex_interval.specs.Fraction.{Fraction}
 use Rattle.pipe_element.specs.Axes.{Axis, x_axis, y_axis, z_axis}
 

@@ -1,5 +1,5 @@
 -- The stiffnesses from the pipe's numbers, read exactly: p for pi in 2^-56, l for the length in 2^-36 micrometre.
-use Rattle.std.specs.Prelude.{ℕ, ◌*◌, ◌^◌, ℤ, pos}
+use Rattle.std.specs.Prelude.{◌*◌, ◌^◌, ℤ, pos}
 use Rattle.flex_interval.specs.Fraction.{Fraction, Within, scaled, over}
 use Rattle.pipe_element.specs.declared.stiffness.Stiffness.{Stiffness}
 

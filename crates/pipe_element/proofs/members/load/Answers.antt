@@ -1,9 +1,8 @@
 use Rattle.int_laws.proofs.Sums.{int_sums}
 use Rattle.int_laws.proofs.Products.{le_mul, mul_comm, mul_nonnegative}
-use Rattle.std.proofs.Common.{rules, ◌≡◌, arith, ap, sym, ◌∙◌, ℤ, pos, ◌+ℤ◌, ◌*ℤ◌, FitsSigned, to_z, of_z, to_z-of_z}
+use Rattle.std.proofs.Common.{rules, arith, pos, ◌*ℤ◌, FitsSigned, to_z-of_z}
 use Rattle.std.proofs.lemmas.Int.{ints}
 use Rattle.std.specs.Int.{w64, w128}
-use Rattle.flex_interval.specs.Fraction.{Fraction, Within}
 use Rattle.pipe_element.proofs.members.load.Goals as goal
 
 pub returns : goal.returns

@@ -1,13 +1,12 @@
-use Rattle.std.proofs.lemmas.Result.{IfOk-weaker, err_from_is_err_and}
+use Rattle.std.proofs.lemmas.Result.{err_from_is_err_and}
 use Rattle.pipe_element.specs.Straight.{straight_of, tube_of}
 use Rattle.pipe_element.specs.Vectors.{way_of, parts_of}
 use Rattle.pipe_element.proofs.TubeLemmas.{difference_low, difference_high}
 use Rattle.pipe_element.proofs.BeamLaw.{members_are_a_beam}
 use Rattle.pipe_element.proofs.Enclosures.{members_enclose, limited_holds}
-use Rattle.std.proofs.Common.{rules, ◌≡◌, arith, ap, sym, ◌∙◌, ℤ, pos, ◌+ℤ◌, ◌*ℤ◌, FitsSigned, to_z, of_z, to_z-of_z}
+use Rattle.std.proofs.Common.{rules, arith, FitsSigned, to_z-of_z}
 use Rattle.std.proofs.lemmas.Int.{ints}
-use Rattle.std.specs.Int.{w64, w128}
-use Rattle.flex_interval.specs.Fraction.{Fraction, Within}
+use Rattle.std.specs.Int.{w128}
 use Rattle.pipe_element.proofs.members.straight.Goals as goal
 
 pub load-requires-clause-low : goal.load-requires-clause-low

@@ -1,7 +1,5 @@
-use Rattle.std.proofs.Common.{rules, ◌≡◌, arith, ap, sym, ◌∙◌, ℤ, pos, ◌+ℤ◌, ◌*ℤ◌, FitsSigned, to_z, of_z, to_z-of_z}
-use Rattle.std.proofs.lemmas.Int.{ints}
+use Rattle.std.proofs.Common.{rules, FitsSigned, to_z-of_z}
 use Rattle.std.specs.Int.{w64, w128}
-use Rattle.flex_interval.specs.Fraction.{Fraction, Within}
 use Rattle.pipe_element.proofs.shapes.along.Goals as goal
 
 pub returns-clause-within : goal.returns-clause-within

@@ -1,8 +1,3 @@
-use Rattle.std.proofs.Common.{rules, ◌≡◌, arith, ap, sym, ◌∙◌, ℤ, pos, ◌*ℤ◌, FitsSigned, to_z, of_z, to_z-of_z}
-use Rattle.std.proofs.lemmas.Int.{ints}
-use Rattle.std.proofs.lemmas.Result.{IfOk-weaker, err_from_is_err_and}
-use Rattle.std.specs.Int.{w64, w128}
-use Rattle.flex_interval.specs.Fraction.{Fraction, Within}
 use Rattle.pipe_element.proofs.shapes.enclose_shapes.Goals as goal
 
 pub returns-clause-within : goal.returns-clause-within

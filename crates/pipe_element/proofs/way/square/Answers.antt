@@ -1,4 +1,4 @@
-use Rattle.std.proofs.Common.{rules, ◌≡◌, arith, ℤ, pos, ◌+ℤ◌, ◌*ℤ◌, FitsSigned, to_z, of_z, to_z-of_z}
+use Rattle.std.proofs.Common.{rules, arith, ◌+ℤ◌, FitsSigned, to_z-of_z}
 use Rattle.std.proofs.lemmas.Int.{ints}
 use Rattle.std.specs.Int.{w64, w128}
 use Rattle.pipe_element.proofs.way.square.Goals as goal
