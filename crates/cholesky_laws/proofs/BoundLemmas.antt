@@ -1,10 +1,10 @@
 -- Sizes in the recurrence: where the nodes before pass, no number that decides leaves 128 bits.
-use Rattle.std.proofs.Common.{◌≡◌, ℕ, zero, suc, ◌+◌, ◌*◌, ◌/◌, ◌^◌, ◌<◌, ◌≤◌, Bool, true, false, List, Option, ◌∙◌, sym, ap, refl, arith, subst, mul-le-mul_right, mul-le-mul, cond, eqb, ◌⊎◌, inl, inr, ℤ, pos, negsuc, ◌+ℤ◌, ◌-ℤ◌, ◌*ℤ◌, ◌≤ℤ◌, ◌<ℤ◌, neg_ℤ, unsigned_abs}
+use Rattle.std.proofs.Common.{◌≡◌, ℕ, zero, suc, ◌+◌, ◌*◌, ◌^◌, ◌<◌, ◌≤◌, Bool, true, false, List, Option, ◌∙◌, ap, arith, mul-le-mul_right, mul-le-mul, cond, eqb, inl, inr, ℤ, pos, negsuc, ◌+ℤ◌, ◌-ℤ◌, ◌*ℤ◌, ◌≤ℤ◌, ◌<ℤ◌, neg_ℤ, unsigned_abs}
 use Rattle.std.proofs.lemmas.Int.{ints, by_lt_z, unsigned_abs-mul}
 use Rattle.int_laws.proofs.Sums.{int_sums}
-use Rattle.int_laws.proofs.Products.{mul_comm, add-mul, mul-add, sub-mul, mul-sub, square_nonnegative, le_mul, lt_mul}
-use Rattle.flex_num.specs.Division.{nearest_of, IsNearest}
-use Rattle.flex_num.specs.Root.{root_of, IsRoot}
+use Rattle.int_laws.proofs.Products.{mul_comm, add-mul, mul-add, sub-mul, mul-sub, square_nonnegative}
+use Rattle.flex_num.specs.Division.{nearest_of}
+use Rattle.flex_num.specs.Root.{root_of}
 use Rattle.flex_num.proofs.DivisionLemmas.{nearest_of-is, nearest_unique}
 use Rattle.flex_num.proofs.RootLemmas.{root_of-is}
 use Rattle.int_laws.specs.Sums.{sum_below}
@@ -12,9 +12,9 @@ use Rattle.cholesky_laws.specs.Recurrence.{cholesky, left_after, pivot, freedom_
 use Rattle.cholesky_laws.proofs.RecurrenceLemmas.{cases_pivot, cholesky-broken, cholesky-diagonal, cholesky-below}
 use Rattle.cholesky_laws.specs.Elimination.{parent_of, is_in_subtree}
 use Rattle.cholesky_laws.specs.Breakdown.{squares}
-use Rattle.int_laws.proofs.SumLaws.{sum_below-nonnegative, sum_below-le}
+use Rattle.int_laws.proofs.SumLaws.{sum_below-nonnegative}
 use Rattle.cholesky_laws.proofs.SumsLemmas.{sum_below-by_six, sum_below-at_most, sum_below-term}
-use Rattle.cholesky_laws.proofs.SubtreeLemmas.{picked, names, node_squares, squares-children, squares-subtree_sum, subtree_sum}
+use Rattle.cholesky_laws.proofs.SubtreeLemmas.{picked, names, node_squares, squares-children, squares-subtree_sum}
 
 -- twice a product is at most the sum of the squares, either way
 product_within : (x y : ℤ) → ((x *ℤ y +ℤ x *ℤ y) ≤ℤ (x *ℤ x +ℤ y *ℤ y)) × (neg_ℤ (x *ℤ x +ℤ y *ℤ y) ≤ℤ (x *ℤ y +ℤ x *ℤ y))

@@ -3,3 +3,4 @@ pub mod RecurrenceLemmas
 pub mod PanelLemmas
 pub mod SubtreeLemmas
 pub mod BoundLemmas
+pub mod FillLemmas

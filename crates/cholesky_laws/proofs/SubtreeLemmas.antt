@@ -1,8 +1,8 @@
 -- Sums over a node's subtree: its own columns and the subtrees of its children.
-use Rattle.std.proofs.Common.{◌≡◌, ℕ, zero, suc, ◌+◌, ◌*◌, ◌/◌, ◌<◌, ◌≤◌, Bool, true, false, cond, eqb, List, Option, Some, None, ◌∙◌, sym, ap, refl, arith, subst, ◌⊎◌, inl, inr, ℤ, pos, ◌+ℤ◌, ◌*ℤ◌}
+use Rattle.std.proofs.Common.{◌≡◌, ℕ, zero, suc, ◌+◌, ◌*◌, ◌/◌, ◌<◌, ◌≤◌, Bool, true, false, cond, eqb, List, Option, Some, None, ◌∙◌, sym, ap, refl, arith, subst, inl, inr, ℤ, pos, ◌+ℤ◌, ◌*ℤ◌}
 use Rattle.std.specs.Option.{option_map_or}
 use Rattle.std.specs.Prelude.{option_and_then}
-use Rattle.std.proofs.lemmas.Bool.{cases_eq, eq-eqb, ne_eqb, eqb-true, eqb-false}
+use Rattle.std.proofs.lemmas.Bool.{cases_eq, eq-eqb, ne_eqb}
 use Rattle.int_laws.proofs.Sums.{int_sums}
 use Rattle.int_laws.specs.Sums.{sum_below}
 use Rattle.cholesky_laws.specs.Recurrence.{cholesky}

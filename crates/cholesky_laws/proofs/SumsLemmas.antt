@@ -1,8 +1,7 @@
 -- Sums over indices.
-use Rattle.std.proofs.Common.{◌≡◌, ℕ, zero, suc, ◌+◌, ◌*◌, ◌<◌, ◌≤◌, ◌∙◌, sym, ap, refl, ◌-◌, arith, add-one, add-zero, add-suc, suc-mul, subst, ◌⊎◌, inl, inr, ℤ, pos, ◌+ℤ◌, ◌-ℤ◌, ◌*ℤ◌, ◌≤ℤ◌, ◌<ℤ◌, neg_ℤ, unsigned_abs}
+use Rattle.std.proofs.Common.{◌≡◌, ℕ, zero, suc, ◌+◌, ◌*◌, ◌<◌, ◌≤◌, ◌∙◌, ap, refl, ◌-◌, arith, add-zero, add-suc, suc-mul, subst, inl, inr, ℤ, pos, ◌+ℤ◌, ◌≤ℤ◌}
 use Rattle.std.proofs.lemmas.Bool.{cases_lt}
 use Rattle.int_laws.proofs.Sums.{int_sums}
-use Rattle.int_laws.proofs.Products.{mul_comm, add-mul, mul-add, square_nonnegative, zero-mul}
 use Rattle.int_laws.specs.Sums.{sum_below}
 use Rattle.int_laws.proofs.SumLaws.{sum_below-zero, sum_below-nonnegative}
 
