@@ -1,5 +1,6 @@
 pub mod FormLaws
 pub mod DefinitenessLaw
+pub mod EnclosureLaw
 pub mod RowSumLemmas
 pub mod ColumnLemmas
 pub mod RowListLemmas

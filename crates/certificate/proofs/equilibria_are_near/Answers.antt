@@ -1,0 +1,5 @@
+use Rattle.certificate.proofs.EnclosureLaw.{matrix_exists, equilibria_near}
+use Rattle.certificate.proofs.equilibria_are_near.Goals as goal
+
+pub returns : goal.returns
+returns c = record { matrix = matrix_exists; near = equilibria_near }

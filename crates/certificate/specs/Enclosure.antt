@@ -1,0 +1,70 @@
+-- How near every equilibrium is to given displacements, by what they leave of the loads and by the definiteness of the
+-- stiffness. How the displacements were found is no premise, nor is any factor or matrix of a computation.
+--
+-- With lambda a lower bound of the stiffness and |r| the length of what is left of the loads, each displacement is within
+-- |r| / lambda of the given one, and each member's force within |r| sqrt(kappa / lambda) of its force there.
+use Rattle.std.specs.Prelude.{ℕ, ◌^◌, ◌<◌, ◌≡◌, List, length, ℤ, pos, ◌-ℤ◌, ◌*ℤ◌, ◌≤ℤ◌}
+use Rattle.int_laws.specs.Sums.{sum_below}
+use Rattle.flex_interval.specs.Ends.{Ends}
+use Rattle.member_set.specs.declared.members.Law.{Law}
+use Rattle.member_set.specs.declared.members.Built.{Built}
+use Rattle.member_set.specs.Members.{member_of}
+use Rattle.member_set.specs.Realisation.{Realisation, IsRealisation, IsEquilibrium, force_in, exact_residual, displaced}
+use Rattle.certificate.specs.QuadraticForm.{Vector, Matrix, squared_norm}
+use Rattle.certificate.specs.Definiteness.{SymmetricFractions, IsDefiniteWith}
+
+-- ---- the stiffness of a realisation
+
+-- the sum over the members of K W_i W_j
+abbrev pub member_sum : Realisation → Matrix
+member_sum r i j = sum_below r.members (λ k. (r.member k).stiffness *ℤ ((r.member k).shape i *ℤ (r.member k).shape j))
+
+-- 2^112 q^3: a product of a stiffness and two shape numbers is so many times its value in 2^-20 N/m
+abbrev pub stiffness_unit : Realisation → ℤ
+stiffness_unit r = pos (2 ^ 112) *ℤ ((r.denominator *ℤ r.denominator) *ℤ r.denominator)
+
+-- k is the realisation's own matrix of stiffnesses, in units of 2^-20 N/m
+pub record IsStiffnessMatrix (r : Realisation) (k : SymmetricFractions r.rows) : Type 0 where
+  pub entry : (i j : ℕ) → i < r.rows → j < r.rows → k.numerator i j ≡ member_sum r i j
+  pub unit : k.denominator ≡ stiffness_unit r
+
+-- no stiffness has a lower end below 0
+abbrev pub NoNegativeStiffness : Built → Type 0
+NoNegativeStiffness b = (k : ℕ) → k < length b.members → pos 0 ≤ℤ (member_of b k).kappa.lo
+
+-- ---- an equilibrium against displacements u in whole units
+
+-- how far the equilibrium is from u, over the denominator
+abbrev pub displacement_error : Realisation → List ℤ → Vector → Vector
+displacement_error r u exact row = exact row -ℤ displaced r.denominator u row
+
+-- how far a member's force in the equilibrium is from its force at u: 2^92 q^3 times the difference
+abbrev pub force_error : Realisation → List ℤ → Vector → ℕ → ℤ
+force_error r u exact k = force_in r exact k -ℤ force_in r (displaced r.denominator u) k
+
+-- what u leaves of each row's load: 2^148 q^4 times the residual
+abbrev pub left_over : Realisation → List ℤ → Vector
+left_over r u row = (exact_residual r (displaced r.denominator u) row).num
+
+-- lambda |e| ≤ |r|, and lambda f^2 ≤ kappa |r|^2 for each member, as whole numbers
+pub record IsNear (r : Realisation) (lambda : ℤ) (u : List ℤ) (exact : Vector) : Type 0 where
+  pub displacements :
+      (((lambda *ℤ stiffness_unit r) *ℤ (lambda *ℤ stiffness_unit r)) *ℤ squared_norm r.rows (displacement_error r u exact))
+      ≤ℤ squared_norm r.rows (left_over r u)
+  pub forces : (k : ℕ) → k < r.members →
+      ((lambda *ℤ stiffness_unit r) *ℤ (force_error r u exact k *ℤ force_error r u exact k))
+      ≤ℤ ((r.member k).stiffness *ℤ squared_norm r.rows (left_over r u))
+
+-- ---- the law
+
+-- every realisation has its matrix of stiffnesses
+abbrev pub StiffnessMatrixExists : Type 0
+StiffnessMatrixExists = (b : Built) (laws : List Law) (loads : List Ends) (r : Realisation) → IsRealisation b laws loads r →
+    (k : SymmetricFractions r.rows) × IsStiffnessMatrix r k
+
+-- where a realisation's stiffness is definite with lambda, every equilibrium is near to any displacements
+abbrev pub EquilibriaAreNear : Type 0
+EquilibriaAreNear = (b : Built) (laws : List Law) (loads : List Ends) (r : Realisation) (k : SymmetricFractions r.rows)
+    (lambda : ℤ) (u : List ℤ) (exact : Vector) →
+    NoNegativeStiffness b → IsRealisation b laws loads r → IsStiffnessMatrix r k → IsDefiniteWith r.rows lambda k → pos 1 ≤ℤ lambda →
+    IsEquilibrium r exact → IsNear r lambda u exact
