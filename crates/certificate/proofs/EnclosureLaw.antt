@@ -72,7 +72,7 @@ force-bounded l k s work size l_positive k_positive own h =
     omega (arith, int_sums, times, whole, mul_comm (l *ℤ (k *ℤ (s *ℤ s))) k, mul_comm size k)
 
 -- a term of a sum of terms that are never negative
-sum_below-ge_term : (n k : ℕ) (f : ℕ → ℤ) → k < n → ((i : ℕ) → i < n → pos 0 ≤ℤ f i) → f k ≤ℤ sum_below n f
+pub sum_below-ge_term : (n k : ℕ) (f : ℕ → ℤ) → k < n → ((i : ℕ) → i < n → pos 0 ≤ℤ f i) → f k ≤ℤ sum_below n f
 sum_below-ge_term zero k f inside up = absurd (omega arith)
 sum_below-ge_term (suc n) k f inside up =
     elim (cases_eq k n) [
@@ -174,7 +174,7 @@ not_negative e n q within low =
     let more = mul_nonnegative e.lo q low (omega (arith, int_sums)) in
     omega (arith, int_sums, more, at_least)
 
-unit_positive : (r : Realisation) → pos 0 <ℤ r.denominator → pos 0 <ℤ stiffness_unit r
+pub unit_positive : (r : Realisation) → pos 0 <ℤ r.denominator → pos 0 <ℤ stiffness_unit r
 unit_positive r q =
     mul_positive (pos (2 ^ 112)) ((r.denominator *ℤ r.denominator) *ℤ r.denominator) (omega (arith, ints))
     (mul_positive (r.denominator *ℤ r.denominator) r.denominator (mul_positive r.denominator r.denominator q q) q)
@@ -191,7 +191,7 @@ enough_work r k lambda u exact own definite balanced =
     let below = definite e in
     omega (arith, int_sums, scaled, form, work, below)
 
-stiffness_not_negative : (r : Realisation) (k : ℕ) (e : Ends) → Within e (fraction (r.member k).stiffness r.denominator) → pos 0 ≤ℤ e.lo → pos 0 ≤ℤ (r.member k).stiffness
+pub stiffness_not_negative : (r : Realisation) (k : ℕ) (e : Ends) → Within e (fraction (r.member k).stiffness r.denominator) → pos 0 ≤ℤ e.lo → pos 0 ≤ℤ (r.member k).stiffness
 stiffness_not_negative r k e within low = not_negative e (r.member k).stiffness r.denominator within low
 
 near_by_work : (r : Realisation) (l : ℤ) (u : List ℤ) (exact : Vector) → pos 0 ≤ℤ l →
@@ -202,8 +202,6 @@ near_by_work : (r : Realisation) (l : ℤ) (u : List ℤ) (exact : Vector) → p
     (l *ℤ (force_error r u exact k *ℤ force_error r u exact k)) ≤ℤ ((r.member k).stiffness *ℤ squared_norm r.rows (left_over r u))
 near_by_work r l u exact positive stiff balanced enough k inside =
     let e : Vector = displacement_error r u exact in
-    let s : ℤ = dot r.rows (r.member k).shape e in
-    let work : ℤ = dot r.rows e (left_over r u) in
     let part = sum_below-ge_term r.members k (member_work r e) inside
     (λ i below. mul_nonnegative (r.member i).stiffness (dot r.rows (r.member i).shape e *ℤ dot r.rows (r.member i).shape e) (stiff i below) (square_nonnegative (dot r.rows (r.member i).shape e))) in
     let all = work-left r u exact balanced in
@@ -214,7 +212,6 @@ near_by_work r l u exact positive stiff balanced enough k inside =
 
 pub equilibria_near : EquilibriaAreNear
 equilibria_near b laws loads r k lambda u exact stiff real own definite one balanced =
-    let l : ℤ = lambda *ℤ stiffness_unit r in
     let positive : pos 0 <ℤ (lambda *ℤ stiffness_unit r) = mul_positive lambda (stiffness_unit r) (omega (arith, int_sums)) (unit_positive r real.positive) in
     let enough = enough_work r k lambda u exact own definite balanced in
     record {

@@ -1,6 +1,7 @@
 pub mod FormLaws
 pub mod DefinitenessLaw
 pub mod EnclosureLaw
+pub mod RadiusLaw
 pub mod RowSumLemmas
 pub mod ColumnLemmas
 pub mod RowListLemmas

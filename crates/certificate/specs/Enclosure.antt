@@ -3,13 +3,14 @@
 --
 -- With lambda a lower bound of the stiffness and |r| the length of what is left of the loads, each displacement is within
 -- |r| / lambda of the given one, and each member's force within |r| sqrt(kappa / lambda) of its force there.
-use Rattle.std.specs.Prelude.{ℕ, ◌^◌, ◌<◌, ◌≡◌, List, length, ℤ, pos, ◌-ℤ◌, ◌*ℤ◌, ◌≤ℤ◌}
+use Rattle.std.specs.Prelude.{ℕ, ◌^◌, ◌<◌, ◌≡◌, List, length, slice_index_or, ℤ, pos, ◌+ℤ◌, ◌-ℤ◌, ◌*ℤ◌, ◌≤ℤ◌}
 use Rattle.int_laws.specs.Sums.{sum_below}
 use Rattle.flex_interval.specs.Ends.{Ends}
+use Rattle.flex_interval.specs.Fraction.{Within}
 use Rattle.member_set.specs.declared.members.Law.{Law}
 use Rattle.member_set.specs.declared.members.Built.{Built}
-use Rattle.member_set.specs.Members.{member_of}
-use Rattle.member_set.specs.Realisation.{Realisation, IsRealisation, IsEquilibrium, force_in, exact_residual, displaced}
+use Rattle.member_set.specs.Members.{member_of, force_of}
+use Rattle.member_set.specs.Realisation.{Realisation, IsRealisation, IsEquilibrium, force_in, exact_residual, displaced, fraction, force_fraction}
 use Rattle.certificate.specs.QuadraticForm.{Vector, Matrix, squared_norm}
 use Rattle.certificate.specs.Definiteness.{SymmetricFractions, IsDefiniteWith}
 
@@ -68,3 +69,49 @@ EquilibriaAreNear = (b : Built) (laws : List Law) (loads : List Ends) (r : Reali
     (lambda : ℤ) (u : List ℤ) (exact : Vector) →
     NoNegativeStiffness b → IsRealisation b laws loads r → IsStiffnessMatrix r k → IsDefiniteWith r.rows lambda k → pos 1 ≤ℤ lambda →
     IsEquilibrium r exact → IsNear r lambda u exact
+
+-- ---- the same as intervals, in the units of the enclosures
+
+-- 2^148 q^4: what is left of a load is so many times its value in 2^-40 N or N m
+abbrev pub residual_unit : Realisation → ℤ
+residual_unit r = pos (2 ^ 148) *ℤ (((r.denominator *ℤ r.denominator) *ℤ r.denominator) *ℤ r.denominator)
+
+-- what u leaves of the loads is at most so long, in 2^-40 N
+abbrev pub IsResidualLength : Realisation → List ℤ → ℤ → Type 0
+IsResidualLength r u size =
+    squared_norm r.rows (left_over r u) ≤ℤ ((residual_unit r *ℤ size) *ℤ (residual_unit r *ℤ size))
+
+-- a radius of the displacements of at least 2^36 |r| / lambda, and one for each force of at least |r| sqrt(kappa / lambda)
+pub record AreRadii (b : Built) (lambda size radius : ℤ) (force_radius : ℕ → ℤ) : Type 0 where
+  pub displacement : (pos (2 ^ 36) *ℤ size) ≤ℤ (lambda *ℤ radius)
+  pub force : (k : ℕ) → k < length b.members →
+      ((member_of b k).kappa.hi *ℤ (size *ℤ size)) ≤ℤ (lambda *ℤ (force_radius k *ℤ force_radius k))
+  pub not_negative : (k : ℕ) → k < length b.members → pos 0 ≤ℤ force_radius k
+
+-- the interval, wider by a radius on both sides
+abbrev pub widened : Ends → ℤ → Ends
+widened e radius = record { lo = e.lo -ℤ radius; hi = e.hi +ℤ radius }
+
+-- the number alone
+abbrev pub alone : ℤ → Ends
+alone z = record { lo = z; hi = z }
+
+-- each force at u is within its interval
+abbrev pub AreForcesWithin : Realisation → List ℤ → List Ends → Type 0
+AreForcesWithin r u forces = (k : ℕ) → k < r.members →
+    Within (force_of forces k) (force_fraction r.denominator (force_in r (displaced r.denominator u) k))
+
+-- each displacement and each force of the equilibrium is within the radius of that at u
+pub record IsEnclosed (r : Realisation) (u : List ℤ) (forces : List Ends) (radius : ℤ) (force_radius : ℕ → ℤ) (exact : Vector) : Type 0 where
+  pub displacement : (row : ℕ) → row < r.rows →
+      Within (widened (alone (slice_index_or u row (pos 0))) radius) (fraction (exact row) r.denominator)
+  pub force : (k : ℕ) → k < r.members →
+      Within (widened (force_of forces k) (force_radius k)) (force_fraction r.denominator (force_in r exact k))
+
+-- what is near is within the radii
+abbrev pub NearIsEnclosed : Type 0
+NearIsEnclosed = (b : Built) (laws : List Law) (loads : List Ends) (r : Realisation) (lambda : ℤ) (u : List ℤ) (exact : Vector)
+    (forces : List Ends) (size radius : ℤ) (force_radius : ℕ → ℤ) →
+    NoNegativeStiffness b → IsRealisation b laws loads r → pos 1 ≤ℤ lambda → IsNear r lambda u exact →
+    pos 0 ≤ℤ size → IsResidualLength r u size → AreRadii b lambda size radius force_radius → AreForcesWithin r u forces →
+    IsEnclosed r u forces radius force_radius exact

@@ -2,7 +2,7 @@
 #![tactic(auto)]
 
 ghost use Rattle.certificate.specs.Definiteness.{PassedTestIsProof};
-ghost use Rattle.certificate.specs.Enclosure.{StiffnessMatrixExists, EquilibriaAreNear};
+ghost use Rattle.certificate.specs.Enclosure.{StiffnessMatrixExists, EquilibriaAreNear, NearIsEnclosed};
 
 mod blocks;
 mod check;
@@ -25,4 +25,5 @@ pub fn passed_test_is_proof()
 pub fn equilibria_are_near()
     ensures matrix { StiffnessMatrixExists }
     ensures near { EquilibriaAreNear }
+    ensures enclosed { NearIsEnclosed }
 {}

@@ -1,5 +1,6 @@
 use Rattle.certificate.proofs.EnclosureLaw.{matrix_exists, equilibria_near}
+use Rattle.certificate.proofs.RadiusLaw.{near_enclosed}
 use Rattle.certificate.proofs.equilibria_are_near.Goals as goal
 
 pub returns : goal.returns
-returns c = record { matrix = matrix_exists; near = equilibria_near }
+returns c = record { matrix = matrix_exists; near = equilibria_near; enclosed = near_enclosed }
