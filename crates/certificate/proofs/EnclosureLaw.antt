@@ -1,19 +1,19 @@
 -- Why every equilibrium is near: with e its distance from the given displacements and r what these leave of the loads, the
 -- work e.r is the sum of the members' K s^2, which is at least lambda |e|^2 and at least each member's own part.
-use Rattle.std.proofs.Common.{◌≡◌, ℕ, zero, suc, ◌<◌, ◌^◌, refl, sym, ◌∙◌, ap, subst, arith, List, length, ℤ, pos, ◌+ℤ◌, ◌-ℤ◌, ◌*ℤ◌, ◌≤ℤ◌, ◌<ℤ◌, inl, inr}
+use Rattle.std.proofs.Common.{◌≡◌, ℕ, zero, suc, ◌<◌, ◌^◌, refl, sym, ◌∙◌, ap, subst, arith, List, ℤ, pos, ◌+ℤ◌, ◌-ℤ◌, ◌*ℤ◌, ◌≤ℤ◌, ◌<ℤ◌, inl, inr}
 use Rattle.std.proofs.lemmas.Int.{ints}
 use Rattle.std.proofs.lemmas.Bool.{cases_eq}
 use Rattle.int_laws.specs.Sums.{sum_below}
 use Rattle.int_laws.proofs.Sums.{int_sums}
-use Rattle.int_laws.proofs.Products.{add-mul, mul-add, sub-mul, mul-sub, neg-mul, mul-neg, zero-mul, mul_comm, mul_assoc, mul_swap, mul_mul_mul_comm, square_nonnegative, mul_nonnegative, mul_positive, le_mul, le_of_mul}
-use Rattle.int_laws.proofs.SumLaws.{sum_below-same, sum_below-sub, sum_below-mul, sum_below-mul_right, sum_below-swap, sum_below-nonnegative}
+use Rattle.int_laws.proofs.Products.{mul-add, sub-mul, mul-sub, zero-mul, mul_comm, mul_assoc, mul_swap, square_nonnegative, mul_nonnegative, mul_positive, le_mul}
+use Rattle.int_laws.proofs.SumLaws.{sum_below-same, sum_below-sub, sum_below-mul, sum_below-swap, sum_below-nonnegative}
 use Rattle.flex_interval.specs.Ends.{Ends}
 use Rattle.flex_interval.specs.Fraction.{Within}
 use Rattle.member_set.specs.Members.{member_of}
-use Rattle.member_set.specs.Realisation.{ExactLaw, linear, ExactMember, Realisation, IsRealisation, IsEquilibrium, stretch, exact_reach, exact_force, force_in, resistance, exact_load, displaced, fraction}
+use Rattle.member_set.specs.Realisation.{ExactLaw, linear, ExactMember, Realisation, IsEquilibrium, stretch, exact_reach, force_in, resistance, exact_load, displaced, fraction}
 use Rattle.certificate.specs.QuadraticForm.{Vector, Matrix, quadratic_form, squared_norm}
 use Rattle.certificate.specs.Definiteness.{SymmetricFractions, IsDefiniteWith}
-use Rattle.certificate.specs.Enclosure.{member_sum, stiffness_unit, IsStiffnessMatrix, NoNegativeStiffness, displacement_error, force_error, left_over, IsNear, StiffnessMatrixExists, EquilibriaAreNear}
+use Rattle.certificate.specs.Enclosure.{member_sum, stiffness_unit, IsStiffnessMatrix, displacement_error, force_error, left_over, StiffnessMatrixExists, EquilibriaAreNear}
 use Rattle.certificate.proofs.FormLaws.{form-same, form-add, form-mul, form-column, form-none}
 
 -- ---- sums of squares, without products of lengths

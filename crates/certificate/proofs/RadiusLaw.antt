@@ -1,12 +1,12 @@
 -- From squares to radii: what is near, in the units of the enclosures.
-use Rattle.std.proofs.Common.{◌≡◌, ℕ, ◌<◌, ◌^◌, refl, sym, ◌∙◌, ap, subst, arith, List, slice_index_or, ℤ, pos, ◌+ℤ◌, ◌-ℤ◌, ◌*ℤ◌, neg_ℤ, ◌≤ℤ◌, ◌<ℤ◌}
+use Rattle.std.proofs.Common.{◌≡◌, ℕ, ◌<◌, ◌^◌, refl, sym, ◌∙◌, ap, subst, arith, List, slice_index_or, ℤ, pos, ◌-ℤ◌, ◌*ℤ◌, neg_ℤ, ◌≤ℤ◌, ◌<ℤ◌}
 use Rattle.std.proofs.lemmas.Int.{ints}
 use Rattle.int_laws.proofs.Sums.{int_sums}
 use Rattle.int_laws.proofs.Products.{add-mul, sub-mul, neg-mul, mul-neg, mul_comm, mul_assoc, mul_swap, mul_right_comm, mul_mul_mul_comm, square_nonnegative, mul_nonnegative, mul_positive, le_mul, le_of_mul, le_of_square}
 use Rattle.flex_interval.specs.Ends.{Ends}
 use Rattle.flex_interval.specs.Fraction.{Within}
 use Rattle.member_set.specs.Members.{member_of, force_of}
-use Rattle.member_set.specs.Realisation.{Realisation, force_in, displaced, fraction, force_fraction}
+use Rattle.member_set.specs.Realisation.{Realisation, force_in, displaced, fraction}
 use Rattle.certificate.specs.QuadraticForm.{Vector, squared_norm}
 use Rattle.certificate.specs.Enclosure.{stiffness_unit, residual_unit, displacement_error, force_error, left_over, IsNear, widened, alone, NearIsEnclosed}
 use Rattle.certificate.proofs.EnclosureLaw.{sum_below-ge_term, unit_positive, stiffness_not_negative}
