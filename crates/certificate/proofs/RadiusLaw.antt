@@ -59,7 +59,7 @@ force_radius_bound c p w q lambda size radius kappa hi f n c_up lambda_up radius
     )) in
     le_of_square f (radius *ℤ w) radius_up square
 
-square-neg : (a : ℤ) → neg_ℤ a *ℤ neg_ℤ a ≡ a *ℤ a
+pub square-neg : (a : ℤ) → neg_ℤ a *ℤ neg_ℤ a ≡ a *ℤ a
 square-neg a = let out = neg-mul a (neg_ℤ a) in let inner = mul-neg a a in omega (arith, int_sums, out, inner)
 
 -- the units: 2^148 q^4 is 2^112 q^3 times 2^36 q, and q (2^148 q^4)^2 is 2^112 q^3 times (2^92 q^3)^2

@@ -4,14 +4,17 @@
 -- With lambda a lower bound of the stiffness and |r| the length of what is left of the loads, each displacement is within
 -- |r| / lambda of the given one, and each member's force within |r| sqrt(kappa / lambda) of its force there.
 use Rattle.std.specs.Prelude.{ℕ, ◌^◌, ◌<◌, ◌≡◌, List, length, slice_index_or, ℤ, pos, ◌+ℤ◌, ◌-ℤ◌, ◌*ℤ◌, ◌≤ℤ◌}
+use Rattle.std.specs.Int.{int_max}
 use Rattle.int_laws.specs.Sums.{sum_below}
+use Rattle.flex_num.specs.Division.{ceil_of}
+use Rattle.flex_num.specs.Root.{root_up_of}
 use Rattle.flex_interval.specs.Ends.{Ends}
 use Rattle.flex_interval.specs.Fraction.{Within}
 use Rattle.member_set.specs.declared.members.Law.{Law}
 use Rattle.member_set.specs.declared.members.Built.{Built}
 use Rattle.member_set.specs.Members.{member_of, force_of}
 use Rattle.member_set.specs.Realisation.{Realisation, IsRealisation, IsEquilibrium, force_in, exact_residual, displaced, fraction, force_fraction}
-use Rattle.certificate.specs.QuadraticForm.{Vector, Matrix, squared_norm}
+use Rattle.certificate.specs.QuadraticForm.{Vector, Matrix, absolute, squared_norm}
 use Rattle.certificate.specs.Definiteness.{SymmetricFractions, IsDefiniteWith}
 
 -- ---- the stiffness of a realisation
@@ -115,3 +118,32 @@ NearIsEnclosed = (b : Built) (laws : List Law) (loads : List Ends) (r : Realisat
     NoNegativeStiffness b → IsRealisation b laws loads r → pos 1 ≤ℤ lambda → IsNear r lambda u exact →
     pos 0 ≤ℤ size → IsResidualLength r u size → AreRadii b lambda size radius force_radius → AreForcesWithin r u forces →
     IsEnclosed r u forces radius force_radius exact
+
+-- ---- a length and radii that are enough, in whole numbers
+
+-- the greater size of an interval's ends
+abbrev pub greater_size : Ends → ℤ
+greater_size e = int_max (absolute e.lo) (absolute e.hi)
+
+-- each residual at u is within its interval
+abbrev pub AreResidualsWithin : Realisation → List ℤ → (ℕ → Ends) → Type 0
+AreResidualsWithin r u residual = (row : ℕ) → row < r.rows →
+    Within (residual row) (exact_residual r (displaced r.denominator u) row)
+
+-- a number whose square is at least the sum of the squares of the greater sizes is a length of what is left
+abbrev pub SizesGiveLength : Type 0
+SizesGiveLength = (r : Realisation) (u : List ℤ) (residual : ℕ → Ends) (size : ℤ) → AreResidualsWithin r u residual →
+    squared_norm r.rows (λ row. greater_size (residual row)) ≤ℤ (size *ℤ size) → IsResidualLength r u size
+
+-- 2^36 size / lambda, rounded up
+abbrev pub displacement_radius_of : ℤ → ℤ → ℤ
+displacement_radius_of lambda size = ceil_of (size *ℤ pos (2 ^ 36)) lambda
+
+-- size times the root of 2^40 kappa / lambda, over 2^20: each step rounded up
+abbrev pub force_radius_of : ℤ → ℤ → ℤ → ℤ
+force_radius_of lambda size kappa = ceil_of (size *ℤ root_up_of (ceil_of (kappa *ℤ pos (2 ^ 40)) lambda)) (pos (2 ^ 20))
+
+abbrev pub RoundedRadiiAreEnough : Type 0
+RoundedRadiiAreEnough = (b : Built) (lambda size : ℤ) → pos 1 ≤ℤ lambda → pos 0 ≤ℤ size →
+    ((k : ℕ) → k < length b.members → pos 0 ≤ℤ (member_of b k).kappa.hi) →
+    AreRadii b lambda size (displacement_radius_of lambda size) (λ k. force_radius_of lambda size (member_of b k).kappa.hi)

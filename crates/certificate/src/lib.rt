@@ -2,7 +2,7 @@
 #![tactic(auto)]
 
 ghost use Rattle.certificate.specs.Definiteness.{PassedTestIsProof};
-ghost use Rattle.certificate.specs.Enclosure.{StiffnessMatrixExists, EquilibriaAreNear, NearIsEnclosed};
+ghost use Rattle.certificate.specs.Enclosure.{StiffnessMatrixExists, EquilibriaAreNear, NearIsEnclosed, SizesGiveLength, RoundedRadiiAreEnough};
 
 mod blocks;
 mod check;
@@ -26,4 +26,6 @@ pub fn equilibria_are_near()
     ensures matrix { StiffnessMatrixExists }
     ensures near { EquilibriaAreNear }
     ensures enclosed { NearIsEnclosed }
+    ensures length { SizesGiveLength }
+    ensures radii { RoundedRadiiAreEnough }
 {}
