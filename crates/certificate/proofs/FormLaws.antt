@@ -86,15 +86,14 @@ regroup : (a b x y : ℤ) → (a *ℤ b) *ℤ (x *ℤ y) ≡ (a *ℤ x) *ℤ (b 
 regroup a b x y =
     mul_assoc a b (x *ℤ y) ∙ ap (λ (z : ℤ). a *ℤ z) (mul_swap b x y) ∙ sym (mul_assoc a x (b *ℤ y))
 
-form-column : (n : ℕ) (g x : Vector) → pos 0 ≤ℤ quadratic_form n (λ i j. g i *ℤ g j) x
+pub form-column : (n : ℕ) (g x : Vector) →
+    quadratic_form n (λ i j. g i *ℤ g j) x ≡ sum_below n (λ i. g i *ℤ x i) *ℤ sum_below n (λ i. g i *ℤ x i)
 form-column n g x =
-    let square =
     double-same n (λ i j. (g i *ℤ g j) *ℤ (x i *ℤ x j)) (λ i j. (g i *ℤ x i) *ℤ (g j *ℤ x j))
     (λ i j _ _. regroup (g i) (g j) (x i) (x j))
-    ∙ sum_below-product n n (λ i. g i *ℤ x i) (λ j. g j *ℤ x j) in
-    omega (arith, int_sums, square, square_nonnegative (sum_below n (λ i. g i *ℤ x i)))
+    ∙ sum_below-product n n (λ i. g i *ℤ x i) (λ j. g j *ℤ x j)
 
-form-none : (n : ℕ) (x : Vector) → quadratic_form n (λ _ _. pos 0) x ≡ pos 0
+pub form-none : (n : ℕ) (x : Vector) → quadratic_form n (λ _ _. pos 0) x ≡ pos 0
 form-none n x =
     sum_below-zero n (λ i. sum_below n (λ j. pos 0 *ℤ (x i *ℤ x j)))
     (λ i _. sum_below-zero n (λ j. pos 0 *ℤ (x i *ℤ x j)) (λ j _. zero-mul (x i *ℤ x j)))
@@ -103,7 +102,7 @@ pub form-gram : (n w : ℕ) (g : Matrix) (x : Vector) → pos 0 ≤ℤ quadratic
 form-gram n zero g x = let none = form-none n x in omega (arith, int_sums, none)
 form-gram n (suc w) g x =
     let parts = form-add n (gram w g) (λ i j. g i w *ℤ g j w) x in
-    omega (arith, int_sums, parts, form-gram n w g x, form-column n (λ i. g i w) x)
+    omega (arith, int_sums, parts, form-gram n w g x, form-column n (λ i. g i w) x, square_nonnegative (sum_below n (λ i. g i w *ℤ x i)))
 
 pub gram-symmetric : (w : ℕ) (g : Matrix) (i j : ℕ) → gram w g i j ≡ gram w g j i
 gram-symmetric w g i j =

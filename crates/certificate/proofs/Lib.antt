@@ -1,5 +1,8 @@
 pub mod FormLaws
 pub mod DefinitenessLaw
+pub mod EnclosureLaw
+pub mod RadiusLaw
+pub mod RoundingLaw
 pub mod RowSumLemmas
 pub mod ColumnLemmas
 pub mod RowListLemmas

@@ -1,5 +1,6 @@
 pub mod QuadraticForm
 pub mod Definiteness
+pub mod Enclosure
 pub mod RowSums
 pub mod RowLists
 pub mod Places

@@ -1,0 +1,233 @@
+-- Why every equilibrium is near: with e its distance from the given displacements and r what these leave of the loads, the
+-- work e.r is the sum of the members' K s^2, which is at least lambda |e|^2 and at least each member's own part.
+use Rattle.std.proofs.Common.{◌≡◌, ℕ, zero, suc, ◌<◌, ◌^◌, refl, sym, ◌∙◌, ap, subst, arith, List, ℤ, pos, ◌+ℤ◌, ◌-ℤ◌, ◌*ℤ◌, ◌≤ℤ◌, ◌<ℤ◌, inl, inr}
+use Rattle.std.proofs.lemmas.Int.{ints}
+use Rattle.std.proofs.lemmas.Bool.{cases_eq}
+use Rattle.int_laws.specs.Sums.{sum_below}
+use Rattle.int_laws.proofs.Sums.{int_sums}
+use Rattle.int_laws.proofs.Products.{mul-add, sub-mul, mul-sub, zero-mul, mul_comm, mul_assoc, mul_swap, square_nonnegative, mul_nonnegative, mul_positive, le_mul}
+use Rattle.int_laws.proofs.SumLaws.{sum_below-same, sum_below-sub, sum_below-mul, sum_below-swap, sum_below-nonnegative}
+use Rattle.flex_interval.specs.Ends.{Ends}
+use Rattle.flex_interval.specs.Fraction.{Within}
+use Rattle.member_set.specs.Members.{member_of}
+use Rattle.member_set.specs.Realisation.{ExactLaw, linear, ExactMember, Realisation, IsEquilibrium, stretch, exact_reach, force_in, resistance, exact_load, displaced, fraction}
+use Rattle.certificate.specs.QuadraticForm.{Vector, Matrix, quadratic_form, squared_norm}
+use Rattle.certificate.specs.Definiteness.{SymmetricFractions, IsDefiniteWith}
+use Rattle.certificate.specs.Enclosure.{member_sum, stiffness_unit, IsStiffnessMatrix, displacement_error, force_error, left_over, StiffnessMatrixExists, EquilibriaAreNear}
+use Rattle.certificate.proofs.FormLaws.{form-same, form-add, form-mul, form-column, form-none}
+
+-- ---- sums of squares, without products of lengths
+
+-- e.r
+abbrev dot : ℕ → Vector → Vector → ℤ
+dot n e r = sum_below n (λ i. e i *ℤ r i)
+
+square-open : (l e r : ℤ) →
+    (r -ℤ (l *ℤ e)) *ℤ (r -ℤ (l *ℤ e)) ≡ ((r *ℤ r) -ℤ ((l *ℤ (e *ℤ r)) +ℤ (l *ℤ (e *ℤ r)))) +ℤ (l *ℤ (l *ℤ (e *ℤ e)))
+square-open l e r =
+    let first = sub-mul r (l *ℤ e) (r -ℤ (l *ℤ e)) in
+    let left = mul-sub r r (l *ℤ e) in
+    let right = mul-sub (l *ℤ e) r (l *ℤ e) in
+    let cross = mul_comm r (l *ℤ e) ∙ mul_assoc l e r in
+    let square = mul_assoc l e (l *ℤ e) ∙ ap (λ (z : ℤ). l *ℤ z) (mul_swap e l e) in
+    omega (arith, int_sums, first, left, right, cross, square, mul_assoc l e r)
+
+-- |r|^2 - 2 l e.r + l^2 |e|^2 ≥ 0
+squares : (n : ℕ) (l : ℤ) (e r : Vector) →
+    pos 0 ≤ℤ ((squared_norm n r -ℤ ((l *ℤ dot n e r) +ℤ (l *ℤ dot n e r))) +ℤ (l *ℤ (l *ℤ squared_norm n e)))
+squares zero l e r =
+    let none = mul_comm l (pos 0) ∙ zero-mul l in
+    let twice = ap (λ (z : ℤ). l *ℤ z) none in
+    omega (arith, int_sums, none, twice)
+squares (suc n) l e r =
+    let before = squares n l e r in
+    let square = square_nonnegative (r n -ℤ (l *ℤ e n)) in
+    let opened = square-open l (e n) (r n) in
+    let work = mul-add l (dot n e r) (e n *ℤ r n) in
+    let inner = ap (λ (z : ℤ). l *ℤ z) (mul-add l (squared_norm n e) (e n *ℤ e n)) in
+    let outer = mul-add l (l *ℤ squared_norm n e) (l *ℤ (e n *ℤ e n)) in
+    omega (arith, int_sums, before, square, opened, work, inner, outer)
+
+-- from l |e|^2 ≤ e.r
+work-bounded : (n : ℕ) (l : ℤ) (e r : Vector) → pos 0 ≤ℤ l → (l *ℤ squared_norm n e) ≤ℤ dot n e r → (l *ℤ dot n e r) ≤ℤ squared_norm n r
+work-bounded n l e r positive h =
+    let more = le_mul l positive h in
+    omega (arith, int_sums, more, squares n l e r, mul_comm (l *ℤ squared_norm n e) l, mul_comm (dot n e r) l)
+
+error-bounded : (n : ℕ) (l : ℤ) (e r : Vector) → pos 0 ≤ℤ l → (l *ℤ squared_norm n e) ≤ℤ dot n e r →
+    ((l *ℤ l) *ℤ squared_norm n e) ≤ℤ squared_norm n r
+error-bounded n l e r positive h =
+    let more = le_mul l positive h in
+    omega (arith, int_sums, more, work-bounded n l e r positive h, mul_comm (l *ℤ squared_norm n e) l, mul_comm (dot n e r) l, mul_assoc l l (squared_norm n e))
+
+-- from K s^2 ≤ e.r, for the force K s
+force-bounded : (l k s work size : ℤ) → pos 0 ≤ℤ l → pos 0 ≤ℤ k → (k *ℤ (s *ℤ s)) ≤ℤ work → (l *ℤ work) ≤ℤ size →
+    (l *ℤ ((k *ℤ s) *ℤ (k *ℤ s))) ≤ℤ (k *ℤ size)
+force-bounded l k s work size l_positive k_positive own h =
+    let scaled = le_mul l l_positive own in
+    let below : (l *ℤ (k *ℤ (s *ℤ s))) ≤ℤ size = omega (arith, int_sums, scaled, h, mul_comm (k *ℤ (s *ℤ s)) l, mul_comm work l) in
+    let times = le_mul k k_positive below in
+    let square = mul_assoc k s (k *ℤ s) ∙ ap (λ (z : ℤ). k *ℤ z) (mul_swap s k s) in
+    let whole = ap (λ (z : ℤ). l *ℤ z) square ∙ mul_swap l k (k *ℤ (s *ℤ s)) in
+    omega (arith, int_sums, times, whole, mul_comm (l *ℤ (k *ℤ (s *ℤ s))) k, mul_comm size k)
+
+-- a term of a sum of terms that are never negative
+pub sum_below-ge_term : (n k : ℕ) (f : ℕ → ℤ) → k < n → ((i : ℕ) → i < n → pos 0 ≤ℤ f i) → f k ≤ℤ sum_below n f
+sum_below-ge_term zero k f inside up = absurd (omega arith)
+sum_below-ge_term (suc n) k f inside up =
+    elim (cases_eq k n) [
+      | inl e ↦
+          let before = sum_below-nonnegative n f (λ i h. up i (omega arith)) in
+          let there = ap f e in
+          omega (arith, int_sums, before, there)
+      | inr ne ↦
+          let before = sum_below-ge_term n k f (omega arith) (λ i h. up i (omega arith)) in
+          omega (arith, int_sums, before, up n (omega arith))
+    ]
+
+-- ---- the form of a sum of members: the sum over k of c_k (g_k.x)^2
+form-members : (n w : ℕ) (c : Vector) (g : Matrix) (x : Vector) →
+    quadratic_form n (λ i j. sum_below w (λ k. c k *ℤ (g k i *ℤ g k j))) x ≡ sum_below w (λ k. c k *ℤ (dot n (g k) x *ℤ dot n (g k) x))
+form-members n zero c g x = form-none n x
+form-members n (suc w) c g x =
+    let parts = form-add n (λ i j. sum_below w (λ k. c k *ℤ (g k i *ℤ g k j))) (λ i j. c w *ℤ (g w i *ℤ g w j)) x in
+    let last = form-mul n (c w) (λ i j. g w i *ℤ g w j) x ∙ ap (λ (z : ℤ). c w *ℤ z) (form-column n (g w) x) in
+    omega (arith, int_sums, parts, last, form-members n w c g x)
+
+-- the work of pulls g_k f_k on x is the sum over k of f_k (g_k.x)
+work-members : (n w : ℕ) (f : Vector) (g : Matrix) (x : Vector) →
+    dot n x (λ i. sum_below w (λ k. g k i *ℤ f k)) ≡ sum_below w (λ k. f k *ℤ dot n (g k) x)
+work-members n w f g x =
+    sum_below-same n (λ i. x i *ℤ sum_below w (λ k. g k i *ℤ f k)) (λ i. sum_below w (λ k. f k *ℤ (g k i *ℤ x i)))
+    (λ i _.
+    sym (sum_below-mul w (x i) (λ k. g k i *ℤ f k))
+    ∙ sum_below-same w (λ k. x i *ℤ (g k i *ℤ f k)) (λ k. f k *ℤ (g k i *ℤ x i))
+    (λ k _. mul_comm (x i) (g k i *ℤ f k) ∙ ap (λ (z : ℤ). z *ℤ x i) (mul_comm (g k i) (f k)) ∙ mul_assoc (f k) (g k i) (x i)))
+    ∙ sum_below-swap n w (λ i k. f k *ℤ (g k i *ℤ x i))
+    ∙ sum_below-same w (λ k. sum_below n (λ i. f k *ℤ (g k i *ℤ x i))) (λ k. f k *ℤ dot n (g k) x)
+    (λ k _. sum_below-mul n (f k) (λ i. g k i *ℤ x i))
+
+-- ---- from one list of displacements to another
+
+-- the difference of two lists, and how far it reaches
+abbrev apart : Vector → Vector → Vector
+apart u v row = u row -ℤ v row
+
+reach-apart : (rows : ℕ) (m : ExactMember) (u v : Vector) → exact_reach rows m u -ℤ exact_reach rows m v ≡ dot rows m.shape (apart u v)
+reach-apart rows m u v =
+    sym (sum_below-sub rows (λ row. m.shape row *ℤ u row) (λ row. m.shape row *ℤ v row))
+    ∙ sum_below-same rows (λ row. (m.shape row *ℤ u row) -ℤ (m.shape row *ℤ v row)) (λ row. m.shape row *ℤ apart u v row)
+    (λ row _. sym (mul-sub (m.shape row) (u row) (v row)))
+
+stretch-apart : (q : ℤ) (law : ExactLaw) (x y : ℤ) → stretch q law x -ℤ stretch q law y ≡ x -ℤ y
+stretch-apart q (linear d) x y = omega (arith, int_sums)
+
+-- a force changes by K times the reach of the difference
+force-apart : (r : Realisation) (u v : Vector) (k : ℕ) →
+    force_in r u k -ℤ force_in r v k ≡ (r.member k).stiffness *ℤ dot r.rows (r.member k).shape (apart u v)
+force-apart r u v k =
+    let m = r.member k in
+    sym (mul-sub m.stiffness (stretch r.denominator m.law (exact_reach r.rows m u)) (stretch r.denominator m.law (exact_reach r.rows m v)))
+    ∙ ap (λ (z : ℤ). m.stiffness *ℤ z)
+    (stretch-apart r.denominator m.law (exact_reach r.rows m u) (exact_reach r.rows m v) ∙ reach-apart r.rows m u v)
+
+-- what v leaves of a load that u holds: the pulls of the changes of force
+left-apart : (r : Realisation) (u v : Vector) (row : ℕ) → resistance r u row ≡ exact_load r row →
+    exact_load r row -ℤ resistance r v row
+    ≡ sum_below r.members (λ k. (r.member k).shape row *ℤ ((r.member k).stiffness *ℤ dot r.rows (r.member k).shape (apart u v)))
+left-apart r u v row balanced =
+    ap (λ (z : ℤ). z -ℤ resistance r v row) (sym balanced)
+    ∙ sym (sum_below-sub r.members (λ k. (r.member k).shape row *ℤ force_in r u k) (λ k. (r.member k).shape row *ℤ force_in r v k))
+    ∙ sum_below-same r.members (λ k. ((r.member k).shape row *ℤ force_in r u k) -ℤ ((r.member k).shape row *ℤ force_in r v k))
+    (λ k. (r.member k).shape row *ℤ ((r.member k).stiffness *ℤ dot r.rows (r.member k).shape (apart u v)))
+    (λ k _. sym (mul-sub ((r.member k).shape row) (force_in r u k) (force_in r v k)) ∙ ap (λ (z : ℤ). (r.member k).shape row *ℤ z) (force-apart r u v k))
+
+-- ---- the law
+
+-- K s^2 of each member
+abbrev member_work : Realisation → Vector → ℕ → ℤ
+member_work r e k = (r.member k).stiffness *ℤ (dot r.rows (r.member k).shape e *ℤ dot r.rows (r.member k).shape e)
+
+-- the work of what is left is that of all members
+work-left : (r : Realisation) (u : List ℤ) (exact : Vector) → IsEquilibrium r exact →
+    dot r.rows (displacement_error r u exact) (left_over r u) ≡ sum_below r.members (member_work r (displacement_error r u exact))
+work-left r u exact balanced =
+    let e : Vector = displacement_error r u exact in
+    sum_below-same r.rows (λ i. e i *ℤ left_over r u i)
+    (λ i. e i *ℤ sum_below r.members (λ k. (r.member k).shape i *ℤ ((r.member k).stiffness *ℤ dot r.rows (r.member k).shape e)))
+    (λ i inside. ap (λ (z : ℤ). e i *ℤ z) (left-apart r exact (displaced r.denominator u) i (balanced i inside)))
+    ∙ work-members r.rows r.members (λ k. (r.member k).stiffness *ℤ dot r.rows (r.member k).shape e) (λ k. (r.member k).shape) e
+    ∙ sum_below-same r.members (λ k. ((r.member k).stiffness *ℤ dot r.rows (r.member k).shape e) *ℤ dot r.rows (r.member k).shape e) (member_work r e)
+    (λ k _. mul_assoc (r.member k).stiffness (dot r.rows (r.member k).shape e) (dot r.rows (r.member k).shape e))
+
+form-work : (r : Realisation) (k : SymmetricFractions r.rows) (e : Vector) → IsStiffnessMatrix r k →
+    quadratic_form r.rows k.numerator e ≡ sum_below r.members (member_work r e)
+form-work r k e own =
+    form-same r.rows k.numerator (member_sum r) e own.entry
+    ∙ form-members r.rows r.members (λ k. (r.member k).stiffness) (λ k. (r.member k).shape) e
+
+-- a stiffness within an interval whose lower end isn't negative isn't negative
+not_negative : (e : Ends) (n q : ℤ) → Within e (fraction n q) → pos 0 ≤ℤ e.lo → pos 0 ≤ℤ n
+not_negative e n q within low =
+    let defined : pos 0 <ℤ q = within.defined in
+    let at_least : (e.lo *ℤ q) ≤ℤ n = within.at_least in
+    let more = mul_nonnegative e.lo q low (omega (arith, int_sums)) in
+    omega (arith, int_sums, more, at_least)
+
+pub unit_positive : (r : Realisation) → pos 0 <ℤ r.denominator → pos 0 <ℤ stiffness_unit r
+unit_positive r q =
+    mul_positive (pos (2 ^ 112)) ((r.denominator *ℤ r.denominator) *ℤ r.denominator) (omega (arith, ints))
+    (mul_positive (r.denominator *ℤ r.denominator) r.denominator (mul_positive r.denominator r.denominator q q) q)
+
+-- l |e|^2 is at most the work, with l the bound in the realisation's units
+enough_work : (r : Realisation) (k : SymmetricFractions r.rows) (lambda : ℤ) (u : List ℤ) (exact : Vector) →
+    IsStiffnessMatrix r k → IsDefiniteWith r.rows lambda k → IsEquilibrium r exact →
+    ((lambda *ℤ stiffness_unit r) *ℤ squared_norm r.rows (displacement_error r u exact)) ≤ℤ dot r.rows (displacement_error r u exact) (left_over r u)
+enough_work r k lambda u exact own definite balanced =
+    let e : Vector = displacement_error r u exact in
+    let scaled = ap (λ (z : ℤ). z *ℤ (lambda *ℤ squared_norm r.rows e)) own.unit ∙ mul_swap (stiffness_unit r) lambda (squared_norm r.rows e) ∙ sym (mul_assoc lambda (stiffness_unit r) (squared_norm r.rows e)) in
+    let form = form-work r k e own in
+    let work = work-left r u exact balanced in
+    let below = definite e in
+    omega (arith, int_sums, scaled, form, work, below)
+
+pub stiffness_not_negative : (r : Realisation) (k : ℕ) (e : Ends) → Within e (fraction (r.member k).stiffness r.denominator) → pos 0 ≤ℤ e.lo → pos 0 ≤ℤ (r.member k).stiffness
+stiffness_not_negative r k e within low = not_negative e (r.member k).stiffness r.denominator within low
+
+near_by_work : (r : Realisation) (l : ℤ) (u : List ℤ) (exact : Vector) → pos 0 ≤ℤ l →
+    ((k : ℕ) → k < r.members → pos 0 ≤ℤ (r.member k).stiffness) →
+    IsEquilibrium r exact →
+    (l *ℤ squared_norm r.rows (displacement_error r u exact)) ≤ℤ dot r.rows (displacement_error r u exact) (left_over r u) →
+    (k : ℕ) → k < r.members →
+    (l *ℤ (force_error r u exact k *ℤ force_error r u exact k)) ≤ℤ ((r.member k).stiffness *ℤ squared_norm r.rows (left_over r u))
+near_by_work r l u exact positive stiff balanced enough k inside =
+    let e : Vector = displacement_error r u exact in
+    let part = sum_below-ge_term r.members k (member_work r e) inside
+    (λ i below. mul_nonnegative (r.member i).stiffness (dot r.rows (r.member i).shape e *ℤ dot r.rows (r.member i).shape e) (stiff i below) (square_nonnegative (dot r.rows (r.member i).shape e))) in
+    let all = work-left r u exact balanced in
+    let bound = force-bounded l (r.member k).stiffness (dot r.rows (r.member k).shape e) (dot r.rows e (left_over r u)) (squared_norm r.rows (left_over r u))
+    positive (stiff k inside) (omega (arith, int_sums, part, all)) (work-bounded r.rows l e (left_over r u) positive enough) in
+    let change = ap (λ (z : ℤ). l *ℤ (z *ℤ z)) (force-apart r exact (displaced r.denominator u) k) in
+    omega (arith, int_sums, bound, change)
+
+pub equilibria_near : EquilibriaAreNear
+equilibria_near b laws loads r k lambda u exact stiff real own definite one balanced =
+    let positive : pos 0 <ℤ (lambda *ℤ stiffness_unit r) = mul_positive lambda (stiffness_unit r) (omega (arith, int_sums)) (unit_positive r real.positive) in
+    let enough = enough_work r k lambda u exact own definite balanced in
+    record {
+      displacements = error-bounded r.rows (lambda *ℤ stiffness_unit r) (displacement_error r u exact) (left_over r u) (omega (arith, int_sums, positive)) enough;
+      forces = near_by_work r (lambda *ℤ stiffness_unit r) u exact (omega (arith, int_sums, positive))
+      (λ i inside. stiffness_not_negative r i (member_of b i).kappa (real.member_within i inside).stiffness_within (stiff i (subst (λ (n : ℕ). i < n) real.all_members inside)))
+      balanced enough;
+    }
+
+pub matrix_exists : StiffnessMatrixExists
+matrix_exists b laws loads r real =
+    (record {
+      numerator = member_sum r;
+      denominator = stiffness_unit r;
+      positive = unit_positive r real.positive;
+      symmetric = λ i j _ _.
+          sum_below-same r.members (λ k. (r.member k).stiffness *ℤ ((r.member k).shape i *ℤ (r.member k).shape j)) (λ k. (r.member k).stiffness *ℤ ((r.member k).shape j *ℤ (r.member k).shape i))
+          (λ k _. ap (λ (z : ℤ). (r.member k).stiffness *ℤ z) (mul_comm ((r.member k).shape i) ((r.member k).shape j)));
+    }, record { entry = λ i j _ _. refl; unit = refl })
