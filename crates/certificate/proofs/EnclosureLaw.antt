@@ -217,17 +217,19 @@ equilibria_near b laws loads r k lambda u exact stiff real own definite one bala
     record {
       displacements = error-bounded r.rows (lambda *ℤ stiffness_unit r) (displacement_error r u exact) (left_over r u) (omega (arith, int_sums, positive)) enough;
       forces = near_by_work r (lambda *ℤ stiffness_unit r) u exact (omega (arith, int_sums, positive))
-      (λ i inside. stiffness_not_negative r i (member_of b i).kappa (real.member_within i inside).stiffness_within (stiff i (subst (λ (n : ℕ). i < n) real.all_members inside)))
-      balanced enough;
+          (λ i inside. stiffness_not_negative r i (member_of b i).kappa (real.member_within i inside).stiffness_within (stiff i (subst (λ (n : ℕ). i < n) real.all_members inside)))
+          balanced enough;
     }
 
 pub matrix_exists : StiffnessMatrixExists
-matrix_exists b laws loads r real =
-    (record {
-      numerator = member_sum r;
-      denominator = stiffness_unit r;
-      positive = unit_positive r real.positive;
-      symmetric = λ i j _ _.
-          sum_below-same r.members (λ k. (r.member k).stiffness *ℤ ((r.member k).shape i *ℤ (r.member k).shape j)) (λ k. (r.member k).stiffness *ℤ ((r.member k).shape j *ℤ (r.member k).shape i))
-          (λ k _. ap (λ (z : ℤ). (r.member k).stiffness *ℤ z) (mul_comm ((r.member k).shape i) ((r.member k).shape j)));
-    }, record { entry = λ i j _ _. refl; unit = refl })
+matrix_exists b laws loads r real = (
+  record {
+    numerator = member_sum r;
+    denominator = stiffness_unit r;
+    positive = unit_positive r real.positive;
+    symmetric = λ i j _ _.
+        sum_below-same r.members (λ k. (r.member k).stiffness *ℤ ((r.member k).shape i *ℤ (r.member k).shape j)) (λ k. (r.member k).stiffness *ℤ ((r.member k).shape j *ℤ (r.member k).shape i))
+        (λ k _. ap (λ (z : ℤ). (r.member k).stiffness *ℤ z) (mul_comm ((r.member k).shape i) ((r.member k).shape j)));
+  },
+  record { entry = λ i j _ _. refl; unit = refl },
+)
