@@ -1,4 +1,5 @@
-//! What is certified of a stiffness matrix: that every matrix within its radii is positive definite.
+//! What is certified: that every stiffness matrix within its radii is positive definite, and how near every equilibrium
+//! therefore is to given displacements.
 #![tactic(auto)]
 
 ghost use Rattle.certificate.specs.Definiteness.{PassedTestIsProof};
@@ -20,8 +21,9 @@ pub fn passed_test_is_proof()
     ensures { PassedTestIsProof }
 {}
 
-/// The law of certified bounds: every equilibrium of a structure with linear laws is near to any displacements, by the length
-/// of what these leave of the loads and by a lower bound of the stiffness.
+/// The law of certified bounds, for linear laws: every realisation has a stiffness matrix; where that is definite with
+/// lambda, in units of 2^-20 N/m, every equilibrium is near to any displacements; what is near is within the radii, in units
+/// of 2^-56 m or rad and of 2^-40 N or N m; and a length and radii that are rounded up are enough.
 pub fn equilibria_are_near()
     ensures matrix { StiffnessMatrixExists }
     ensures near { EquilibriaAreNear }
