@@ -1,0 +1,188 @@
+-- The whole matrices: what stands outside the pattern.
+use Rattle.std.proofs.Common.{◌≡◌, ◌≢◌, ℕ, zero, suc, ◌/◌, ◌<◌, ◌⊎◌, inl, inr, List, length, map, get_or, slice_index, refl, sym, subst, ap, ◌∙◌, arith, ◌≤◌, false, true, Ok, Err}
+use Rattle.std.specs.Prelude.{Contains, IsOk, Result, is_err, OnOk, OnErr}
+use Rattle.std.proofs.lemmas.Bool.{cases_eq}
+use Rattle.sym_blocks.specs.Matrix.{Matrix, pattern_of, HasBlock}
+use Rattle.assembly.specs.Filling.{IsFilled, IsWideFrom}
+use Rattle.std.proofs.lemmas.Bool.Decides.{nat_tests}
+use Rattle.std.proofs.lemmas.Grind.{get_or_default_zero}
+use Rattle.flex_num.specs.Division.{floor_of}
+use Rattle.flex_interval.specs.Operations.{add_of}
+use Rattle.member_set.specs.declared.members.Member.{Member}
+use Rattle.member_set.specs.declared.members.Built.{Built}
+use Rattle.member_set.specs.Members.{nothing, Touches, IsBuilt, row_count, node_count, member_of, members_at}
+use Rattle.member_set.specs.Interval.{Outcome, in_turn}
+use Rattle.member_set.proofs.Touching.{numbers_in_range}
+use Rattle.int_laws.specs.Sums.{sum_below}
+use Rattle.int_laws.proofs.Sums.{int_sums}
+use Rattle.int_laws.proofs.Products.{zero-mul, mul_comm, mul_swap}
+use Rattle.int_laws.proofs.SumLaws.{sum_below-zero, sum_below-same}
+use Rattle.std.proofs.Common.{ℤ, pos, ◌*ℤ◌}
+use Rattle.flex_interval.specs.Ends.{Ends}
+use Rattle.member_set.specs.declared.members.Law.{Law}
+use Rattle.member_set.specs.Realisation.{Realisation, IsRealisation}
+use Rattle.member_set.proofs.Rows.{nothing_is_zero}
+use Rattle.sym_blocks.specs.Matrix.{entry, IsSymmetricByBlocks}
+use Rattle.assembly.proofs.Outside.{off_node, product_zero}
+use Rattle.assembly.specs.Stiffness.{AreAssembled, exact_entry, entry_unit, IsNear}
+use Rattle.assembly.specs.Stiffness.{stiffness_at, HasPatternOf, IsFirstWide, touches, entry_term, entry_sum, upper_entry, Joins, AreJoined}
+
+nothing_sum : (term : ℕ → Outcome) (n : ℕ) → ((t : ℕ) → t < n → term t ≡ Ok nothing) → in_turn add_of nothing term n ≡ Ok nothing
+unfolding add_of
+nothing_sum term zero all = refl
+nothing_sum term (suc n) all = rw (nothing_sum term n (λ t below. all t (omega arith)), all n (omega arith)) refl
+
+not_touching : (m : Member) (n k : ℕ) → (Joins m n k → ⊥) → Touches m n → n ≢ k → touches m k ≡ false
+not_touching m n k apart touch other =
+    let first : m.n1 ≢ k = λ e. elim touch [ inl f ↦ other (omega arith) | inr f ↦ apart (inr (e, f)) ] in
+    let second : m.n2 ≢ k = λ e. elim touch [ inl f ↦ apart (inl (f, e)) | inr f ↦ other (omega arith) ] in
+    grind (arith, nat_tests)
+
+outside_term : (b : Built) → IsBuilt b → (i j t : ℕ) → i / 6 < node_count b → (AreJoined b (i / 6) (j / 6) → ⊥) → t < length (members_at b (i / 6)) →
+    entry_term b i j t ≡ Ok nothing
+outside_term b built i j t node_inside apart inside =
+    let k = slice_index (members_at b (i / 6)) t in
+    let touch = (built.touching (i / 6) k node_inside).0 (t, inside, get_or_default_zero (members_at b (i / 6)) t _ inside) in
+    let off = not_touching (member_of b k) (i / 6) (j / 6) (λ joins. apart (inr (k, touch.0, joins))) touch.1 (λ e. apart (inl (e, node_inside))) in
+    rw off refl
+
+-- an entry that no member gives is exactly 0
+pub outside_value : (b : Built) → IsBuilt b → (i j : ℕ) → i / 6 < node_count b → (AreJoined b (i / 6) (j / 6) → ⊥) → upper_entry b i j ≡ Ok nothing
+unfolding entry_sum floor_of
+outside_value b built i j node_inside apart =
+    rw (nothing_sum (entry_term b i j) (length (members_at b (i / 6))) (λ t inside. outside_term b built i j t node_inside apart inside)) refl
+
+-- a list has a number, or has it not
+any_below : (xs : List ℕ) (k n : ℕ) → ((t : ℕ) × (t < n) × (get_or xs t k ≡ k)) ⊎ ((t : ℕ) → t < n → get_or xs t k ≢ k)
+any_below xs k zero = inr (λ t below. absurd (omega arith))
+any_below xs k (suc n) =
+    elim (any_below xs k n) [
+      | inl f ↦ inl (f.0, omega (arith, f.1), f.2)
+      | inr none ↦ elim (cases_eq (get_or xs n k) k) [
+        | inl e ↦ inl (n, omega arith, e)
+        | inr ne ↦ inr (λ t below. elim (cases_eq t n) [ inl f ↦ rw f ne | inr other ↦ none t (omega arith) ])
+      ]
+    ]
+
+pub contained_or_not : (xs : List ℕ) (k : ℕ) → Contains xs k ⊎ (Contains xs k → ⊥)
+contained_or_not xs k =
+    elim (any_below xs k (length xs)) [
+      | inl f ↦ inl f
+      | inr none ↦ inr (λ found. none found.0 found.1 found.2)
+    ]
+
+-- from the diagonal on the entry is that of the two rows as they come
+pub upper_is : (b : Built) (i j : ℕ) → i ≤ j → stiffness_at b i j ≡ upper_entry b i j
+upper_is b i j order = grind (arith, nat_tests)
+
+pub lower_is : (b : Built) (i j : ℕ) → j < i → stiffness_at b i j ≡ upper_entry b j i
+lower_is b i j order = grind (arith, nat_tests)
+
+-- where the entries of a pattern's row are filled, all entries of the row have values
+pub upper_ok : (b : Built) → IsBuilt b → (km rd : Matrix) → HasPatternOf km b → (i j : ℕ) → i < row_count b →
+    (HasBlock km (i / 6) (j / 6) → IsFilled b km rd i j) → IsOk (upper_entry b i j)
+upper_ok b built km rd pattern i j inside filled =
+    elim (contained_or_not (pattern_of km (i / 6)) (j / 6)) [
+      | inl has ↦ rw ((filled has).are.value) refl
+      | inr not ↦ rw (outside_value b built i j (omega arith) (λ joined. not ((pattern (i / 6) (j / 6)).1 joined))) refl
+    ]
+
+pub first_wide : (b : Built) → IsBuilt b → (km rd : Matrix) → HasPatternOf km b → (row : ℕ) → row < row_count b →
+    ((i j : ℕ) → i < row → i ≤ j → HasBlock km (i / 6) (j / 6) → IsFilled b km rd i j) → IsWideFrom b row → IsFirstWide b row
+first_wide b built km rd pattern row inside filled wide =
+    record {
+      in_range = inside;
+      wide = (wide.0, wide.2, rw (upper_is b row wide.0 wide.1) wide.3);
+      before = λ i j below j_inside.
+          let side : (i ≤ j) ⊎ (j < i) = search arith in
+          elim side [
+            | inl up ↦ rw (upper_is b i j up) (upper_ok b built km rd pattern i j (omega arith) (filled i j below up))
+            | inr down ↦ rw (lower_is b i j down) (upper_ok b built km rd pattern j i (omega arith) (filled j i (omega arith) (omega arith)))
+          ];
+    }
+
+-- a step that did not fail
+pub on_ok : {T E : Type 0} (r : Result T E) (P : Type 0) → is_err r ≡ false → OnOk r P → P
+on_ok (Ok t) P e h = h
+on_ok (Err x) P e h = grind arith
+
+pub on_err : {T E : Type 0} (r : Result T E) (P : Type 0) → is_err r ≡ true → OnErr r P → P
+on_err (Ok t) P e h = grind arith
+on_err (Err x) P e h = h
+
+exact_zero : (b : Built) → IsBuilt b → (laws : List Law) (loads : List Ends) (r : Realisation) → IsRealisation b laws loads r → (i j : ℕ) → i / 6 < node_count b →
+    (AreJoined b (i / 6) (j / 6) → ⊥) → exact_entry r i j ≡ pos 0
+exact_zero b built laws loads r real i j node_inside apart =
+    sum_below-zero r.members _
+    (λ k inside.
+    let within = real.member_within k inside in
+    let touched : Touches (member_of b k) (i / 6) → (r.member k).shape i *ℤ ((r.member k).stiffness *ℤ (r.member k).shape j) ≡ pos 0 =
+    λ touch.
+    let off = not_touching (member_of b k) (i / 6) (j / 6) (λ joins. apart (inr (k, omega (arith, real.all_members, inside), joins))) touch (λ e. apart (inl (e, node_inside))) in
+    let none = nothing_is_zero _ r.denominator (rw (off_node (member_of b k) j off) at (within.shape_within j)) in
+    ap (λ (z : ℤ). (r.member k).shape i *ℤ ((r.member k).stiffness *ℤ z)) none ∙ product_zero ((r.member k).shape i) (r.member k).stiffness in
+    let first : ((member_of b k).n1 ≡ i / 6) ⊎ ((member_of b k).n1 ≢ i / 6) = search arith in
+    let second : ((member_of b k).n2 ≡ i / 6) ⊎ ((member_of b k).n2 ≢ i / 6) = search arith in
+    elim first [
+      | inl e ↦ touched (inl e)
+      | inr not_first ↦ elim second [
+        | inl e ↦ touched (inr e)
+        | inr not_second ↦
+            let off : touches (member_of b k) (i / 6) ≡ false = grind (arith, nat_tests) in
+            let none = nothing_is_zero _ r.denominator (rw (off_node (member_of b k) i off) at (within.shape_within i)) in
+            ap (λ (z : ℤ). z *ℤ ((r.member k).stiffness *ℤ (r.member k).shape j)) none ∙ zero-mul ((r.member k).stiffness *ℤ (r.member k).shape j)
+      ]
+    ])
+
+near_zero : (unit : ℤ) → IsNear unit (pos 0) (pos 0) (pos 0)
+near_zero unit = omega (arith, int_sums, mul_comm unit (pos 0), zero-mul unit)
+
+filled_all : (b : Built) → IsBuilt b → (km rd : Matrix) → IsSymmetricByBlocks km → IsSymmetricByBlocks rd → HasPatternOf km b → HasPatternOf rd b → (i j : ℕ) → i < row_count b →
+    (HasBlock km (i / 6) (j / 6) → IsFilled b km rd i j) → IsFilled b km rd i j
+unfolding floor_of
+filled_all b built km rd middles radii pattern pattern_too i j inside filled =
+    elim (contained_or_not (pattern_of km (i / 6)) (j / 6)) [
+      | inl has ↦ filled has
+      | inr not ↦
+          let apart : AreJoined b (i / 6) (j / 6) → ⊥ = λ joined. not ((pattern (i / 6) (j / 6)).1 joined) in
+          let none = middles.outside i j not in
+          let none_too = radii.outside i j (λ has. apart ((pattern_too (i / 6) (j / 6)).0 has)) in
+          record {
+            are = record { enclosure = nothing; value = outside_value b built i j (omega arith) apart; middle_is = none; radius_is = none_too };
+            near = λ laws loads r real. rw (none, none_too, exact_zero b built laws loads r real i j (omega arith) apart) (near_zero (entry_unit r.denominator));
+          }
+    ]
+
+exact_symmetric : (r : Realisation) (i j : ℕ) → exact_entry r i j ≡ exact_entry r j i
+exact_symmetric r i j =
+    sum_below-same r.members _ _ (λ k inside. turned ((r.member k).shape i) (r.member k).stiffness ((r.member k).shape j))
+  where
+    turned : (a s b : ℤ) → a *ℤ (s *ℤ b) ≡ b *ℤ (s *ℤ a)
+    turned a s b = mul_swap a s b ∙ ap (λ (z : ℤ). s *ℤ z) (mul_comm a b) ∙ mul_swap s b a
+
+pub assembled : (b : Built) → IsBuilt b → (km rd : Matrix) → IsSymmetricByBlocks km → IsSymmetricByBlocks rd → HasPatternOf km b → HasPatternOf rd b →
+    ((i j : ℕ) → i < row_count b → i ≤ j → HasBlock km (i / 6) (j / 6) → IsFilled b km rd i j) → AreAssembled b km rd
+assembled b built km rd middles radii pattern pattern_too filled =
+    record {
+      middles_pattern = pattern;
+      radii_pattern = pattern_too;
+      entries = λ i j i_inside j_inside.
+          let side : (i ≤ j) ⊎ (j < i) = search arith in
+          elim side [
+            | inl up ↦ rw (upper_is b i j up) (filled_all b built km rd middles radii pattern pattern_too i j i_inside (filled i j i_inside up)).are
+            | inr down ↦ rw (lower_is b i j down, middles.symmetric i j, radii.symmetric i j)
+                (filled_all b built km rd middles radii pattern pattern_too j i j_inside (filled j i j_inside (omega arith))).are
+          ];
+    }
+
+pub all_near : (b : Built) → IsBuilt b → (km rd : Matrix) → IsSymmetricByBlocks km → IsSymmetricByBlocks rd → HasPatternOf km b → HasPatternOf rd b →
+    ((i j : ℕ) → i < row_count b → i ≤ j → HasBlock km (i / 6) (j / 6) → IsFilled b km rd i j) →
+    (laws : List Law) (loads : List Ends) (r : Realisation) → IsRealisation b laws loads r → (i j : ℕ) → i < row_count b → j < row_count b →
+    IsNear (entry_unit r.denominator) (exact_entry r i j) (entry km i j) (entry rd i j)
+all_near b built km rd middles radii pattern pattern_too filled laws loads r real i j i_inside j_inside =
+    let side : (i ≤ j) ⊎ (j < i) = search arith in
+    elim side [
+      | inl up ↦ (filled_all b built km rd middles radii pattern pattern_too i j i_inside (filled i j i_inside up)).near laws loads r real
+      | inr down ↦ rw (exact_symmetric r i j, middles.symmetric i j, radii.symmetric i j)
+          ((filled_all b built km rd middles radii pattern pattern_too j i j_inside (filled j i j_inside (omega arith))).near laws loads r real)
+    ]

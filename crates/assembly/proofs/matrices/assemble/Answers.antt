@@ -1,0 +1,57 @@
+use Rattle.std.proofs.Common.{◌≡◌, ℕ, ◌<◌, ◌⊎◌, inl, inr, ◌∙◌, sym, ap, arith, List, length, slice_index_or, []}
+use Rattle.std.specs.Prelude.{Contains}
+use Rattle.member_set.specs.Members.{row_count}
+use Rattle.sym_blocks.specs.Matrix.{HasBlock}
+use Rattle.assembly.proofs.Patterns.{pairs_in_range, pattern_of_pairs}
+use Rattle.assembly.proofs.Kept.{pattern_kept}
+use Rattle.assembly.proofs.Whole.{assembled, all_near, first_wide, on_ok, on_err}
+use Rattle.assembly.proofs.matrices.assemble.Goals as goal
+
+pub new-requires : goal.new-requires
+new-requires c = rw c.as_slice.ensures (pairs_in_range c.args.b.now c.requires.built c.deref.result.now (c.deref.ensures.value ∙ c.in_ok-pairs.ensures))
+
+pub new-requires-2 : goal.new-requires-2
+new-requires-2 c = rw c.as_slice.ensures (pairs_in_range c.args.b.now c.requires.built c.deref-2.result.now (c.deref-2.ensures.value ∙ c.in_ok-pairs.ensures))
+
+pub loop-row-init : goal.loop-row-init
+loop-row-init c =
+    record {
+      middles_pattern = pattern_of_pairs c.args.b.now c.in_ok-middles.middles _ _ (ap (λ (xs : List (List ℕ)). length xs) c.as_slice.ensures) (c.deref.ensures.value ∙ c.in_ok-pairs.ensures) c.in_ok-middles.ensures.pattern;
+      radii_pattern = pattern_of_pairs c.args.b.now c.in_ok-radii.radii _ _ (ap (λ (xs : List (List ℕ)). length xs) c.as_slice.ensures) (c.deref-2.ensures.value ∙ c.in_ok-pairs.ensures) c.in_ok-radii.ensures.pattern;
+      filled = λ i j below up has. absurd (omega arith);
+    }
+
+pub loop-row-preserved : goal.loop-row-preserved
+loop-row-preserved c =
+    let fine = sym c.is_err.ensures.value ∙ c.if-is_err.false in
+    let kept = on_ok c.fill_row.result _ fine c.fill_row.ensures.kept in
+    let filled = on_ok c.fill_row.result _ fine c.fill_row.ensures.filled in
+    record {
+      middles_pattern = pattern_kept c.args.b.now c.loop-row.middles c.fill_row.new.middles kept.middles_pattern c.loop-row.invariant.middles_pattern;
+      radii_pattern = pattern_kept c.args.b.now c.loop-row.radii c.fill_row.new.radii kept.radii_pattern c.loop-row.invariant.radii_pattern;
+      filled = λ i j below up has.
+          let before = rw kept.middles_pattern at has in
+          let side : (i < c.loop-row.row) ⊎ (i ≡ c.loop-row.row) = search arith in
+          elim side [
+            | inl less ↦ kept.filled i j up (c.loop-row.invariant.filled i j less up before)
+            | inr e ↦ rw e (filled j (rw e at before) (rw e at up))
+          ];
+    }
+
+pub returns-then-is_err-clause-fault : goal.returns-then-is_err-clause-fault
+returns-then-is_err-clause-fault c =
+    let failed = sym c.is_err.ensures.value ∙ c.if-is_err.true in
+    first_wide c.args.b.now c.requires.built c.loop-row.middles c.loop-row.radii c.loop-row.invariant.middles_pattern c.loop-row.row
+    (omega (arith, ap (λ (xs : List (List ℕ)). length xs) c.as_slice.ensures)) c.loop-row.invariant.filled (on_err c.fill_row.result _ failed c.fill_row.ensures.fault)
+
+pub returns-clause-matrices : goal.returns-clause-matrices
+returns-clause-matrices c =
+    assembled c.args.b.now c.requires.built c.loop-row.middles c.loop-row.radii c.pattern-middles_nodes.ensures.kept c.pattern-radii_nodes.ensures.kept
+    c.loop-row.invariant.middles_pattern c.loop-row.invariant.radii_pattern
+    (λ i j inside. c.loop-row.invariant.filled i j (omega (arith, inside, ap (λ (xs : List (List ℕ)). length xs) c.as_slice.ensures)))
+
+pub returns-clause-within : goal.returns-clause-within
+returns-clause-within c =
+    all_near c.args.b.now c.requires.built c.loop-row.middles c.loop-row.radii c.pattern-middles_nodes.ensures.kept c.pattern-radii_nodes.ensures.kept
+    c.loop-row.invariant.middles_pattern c.loop-row.invariant.radii_pattern
+    (λ i j inside. c.loop-row.invariant.filled i j (omega (arith, inside, ap (λ (xs : List (List ℕ)). length xs) c.as_slice.ensures)))

@@ -1,0 +1,2 @@
+pub mod Stiffness
+pub mod Filling

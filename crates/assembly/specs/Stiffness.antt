@@ -1,0 +1,112 @@
+-- The stiffness matrix of a structure: the enclosure of each entry, its middle and its radius, and what it encloses.
+use Rattle.std.specs.Prelude.{ℕ, ◌+◌, ◌/◌, ◌^◌, ◌<◌, ◌≡◌, ◌==◌, ◌||◌, ⊤, ◌⊎◌, ◌↔◌, Bool, nat_lt, length, slice_index, ℤ, pos, ◌+ℤ◌, ◌-ℤ◌, ◌*ℤ◌, ◌≤ℤ◌, unsigned_abs, Ok, Err, IsOk, IsErr, if◌then◌else◌}
+use Rattle.int_laws.specs.Sums.{sum_below}
+use Rattle.flex_num.specs.Division.{floor_of}
+use Rattle.flex_interval.specs.Ends.{Ends}
+use Rattle.flex_interval.specs.Operations.{and_then, add_of, mul_of}
+use Rattle.flex_interval.specs.declared.fault.IvFault.TheVariants.{Wide}
+use Rattle.member_set.specs.declared.members.Member.{Member}
+use Rattle.member_set.specs.declared.members.Built.{Built}
+use Rattle.member_set.specs.Members.{nothing, shape_at, member_of, members_at, node_count, row_count}
+use Rattle.member_set.specs.Realisation.{Realisation}
+use Rattle.member_set.specs.Interval.{Outcome, in_turn}
+use Rattle.sym_blocks.specs.Matrix.{Matrix, entry, HasBlock}
+use Rattle.assembly.specs.declared.fault.AssembleFault.{AssembleFault}
+use Rattle.assembly.specs.declared.fault.AssembleFault.TheVariants as faults
+
+-- ---- the enclosure of an entry
+
+abbrev pub touches : Member → ℕ → Bool
+touches m node = (m.n1 == node) || (m.n2 == node)
+
+-- what a member at a row's node gives to an entry of the row: kappa w_row w_col, and exactly 0 in a column of a node
+-- that it does not touch
+abbrev pub member_entry : Member → ℕ → ℕ → Outcome
+member_entry m row col =
+    if touches m (col / 6) then and_then (mul_of m.kappa (shape_at m row) 56) (λ e. mul_of e (shape_at m col) 56) else Ok nothing
+
+-- what the t-th of the members at a row's node gives
+abbrev pub entry_term : Built → ℕ → ℕ → ℕ → Outcome
+entry_term b row col t = member_entry (member_of b (slice_index (members_at b (row / 6)) t)) row col
+
+-- the sum over the members at a row's node, in their order
+unfoldable pub entry_sum : Built → ℕ → ℕ → Outcome
+entry_sum b row col = in_turn add_of nothing (entry_term b row col) (length (members_at b (row / 6)))
+
+-- half the sum of the ends, rounded down
+abbrev pub middle_of : Ends → ℤ
+middle_of e = floor_of (e.lo +ℤ e.hi) (pos 2)
+
+-- how far the upper end is from the middle
+abbrev pub radius_of : Ends → ℤ
+radius_of e = e.hi -ℤ middle_of e
+
+-- the sizes of the middle and of the radius together below 2^60
+abbrev pub limited_entry : Ends → Outcome
+limited_entry e = if nat_lt (unsigned_abs (middle_of e) + unsigned_abs (radius_of e)) (2 ^ 60) then Ok e else Err Wide
+
+-- the entry of two rows, the lesser first
+abbrev pub upper_entry : Built → ℕ → ℕ → Outcome
+upper_entry b row col = and_then (entry_sum b row col) limited_entry
+
+-- the entry in row i and column j
+abbrev pub stiffness_at : Built → ℕ → ℕ → Outcome
+stiffness_at b i j = if nat_lt j i then upper_entry b j i else upper_entry b i j
+
+-- ---- the two matrices
+
+-- a middle and a radius are those of an interval
+pub record AreOf (outcome : Outcome) (middle radius : ℤ) : Type 0 where
+  pub enclosure : Ends
+  pub value : outcome ≡ Ok enclosure
+  pub middle_is : middle ≡ middle_of enclosure
+  pub radius_is : radius ≡ radius_of enclosure
+
+-- the member leads from one of the nodes to the other
+abbrev pub Joins : Member → ℕ → ℕ → Type 0
+Joins m n k = ((m.n1 ≡ n) × (m.n2 ≡ k)) ⊎ ((m.n1 ≡ k) × (m.n2 ≡ n))
+
+-- a node is joined with itself, and two nodes are where a member joins them
+abbrev pub AreJoined : Built → ℕ → ℕ → Type 0
+AreJoined b n k = ((n ≡ k) × (n < node_count b)) ⊎ ((t : ℕ) × (t < length b.members) × Joins (member_of b t) n k)
+
+-- the blocks are those of the nodes that are joined
+abbrev pub HasPatternOf : Matrix → Built → Type 0
+HasPatternOf m b = (n k : ℕ) → HasBlock m n k ↔ AreJoined b n k
+
+-- the middles and the radii of all members' stiffness matrix
+pub record AreAssembled (b : Built) (middles radii : Matrix) : Type 0 where
+  pub middles_pattern : HasPatternOf middles b
+  pub radii_pattern : HasPatternOf radii b
+  pub entries : (i j : ℕ) → i < row_count b → j < row_count b → AreOf (stiffness_at b i j) (entry middles i j) (entry radii i j)
+
+-- ---- faults
+
+-- some entry of the row has no enclosure below its limit
+abbrev pub IsWideRow : Built → ℕ → Type 0
+IsWideRow b row = (col : ℕ) × (col < row_count b) × IsErr (stiffness_at b row col)
+
+-- the row is the first that is wide
+pub record IsFirstWide (b : Built) (row : ℕ) : Type 0 where
+  pub in_range : row < row_count b
+  pub wide : IsWideRow b row
+  pub before : (i j : ℕ) → i < row → j < row_count b → IsOk (stiffness_at b i j)
+
+-- the row that a fault names is the first that is wide
+abbrev pub NamesFirstWide : Built → AssembleFault → Type 0
+NamesFirstWide b (faults.Wide row) = IsFirstWide b row
+NamesFirstWide b faults.NoMemory = ⊤
+
+-- ---- what the matrices enclose
+
+-- the entry of a realisation's matrix: the sum over all members of W_row K W_col, 2^112 q^3 times the entry
+abbrev pub exact_entry : Realisation → ℕ → ℕ → ℤ
+exact_entry r row col = sum_below r.members (λ k. (r.member k).shape row *ℤ ((r.member k).stiffness *ℤ (r.member k).shape col))
+
+-- 2^112 q^3
+abbrev pub entry_unit : ℤ → ℤ
+entry_unit q = pos (2 ^ 112) *ℤ ((q *ℤ q) *ℤ q)
+
+-- exact / unit is at most the radius away from the middle
+abbrev pub IsNear : ℤ → ℤ → ℤ → ℤ → Type 0
+IsNear unit exact middle radius = pos (unsigned_abs (exact -ℤ (unit *ℤ middle))) ≤ℤ (unit *ℤ radius)

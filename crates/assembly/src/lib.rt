@@ -1,0 +1,10 @@
+//! The stiffness matrix of a structure, as middles and radii of the enclosures of its entries.
+#![tactic(auto)]
+
+mod entries;
+mod fault;
+mod filling;
+mod matrices;
+
+pub use fault::AssembleFault;
+pub use matrices::assemble;

@@ -1,0 +1,55 @@
+ghost use Rattle.std.specs.Prelude.{◌≡◌, ℕ, ◌<◌, [], length, IfOk, IfErr, map, List};
+ghost use Rattle.flex_interval.specs.Ends.{Ends};
+ghost use Rattle.member_set.specs.declared.members.Law.{Law};
+ghost use Rattle.member_set.specs.Members.{IsBuilt, row_count};
+ghost use Rattle.member_set.specs.Realisation.{Realisation, IsRealisation};
+ghost use Rattle.sym_blocks.specs.Matrix.{entry};
+ghost use Rattle.assembly.specs.Stiffness.{AreAssembled, NamesFirstWide, exact_entry, entry_unit, IsNear};
+
+use crate::fault::AssembleFault;
+use crate::filling::fill_row;
+use member_set::Built;
+use std::alloc::{AllocError, Global};
+use sym_blocks::SymBlocks;
+
+/// The middles and the radii of the stiffness matrix of a structure's members, in units of 2^-20 N/m. An empty list of
+/// states stands for the linear members alone.
+pub fn assemble(
+    alloc: Global,
+    b: &Built,
+    _closed: &[bool],
+) -> Result<(SymBlocks, SymBlocks), AssembleFault>
+    requires built { IsBuilt b.now }
+    requires all_linear { b.now.unilateral ≡ [] }
+    requires no_states { _closed.now ≡ [] }
+    ensures matrices { IfOk result (λ m. AreAssembled b.now m.0 m.1) }
+    ensures within { IfOk result (λ m. (laws : List Law) (loads : List Ends) (r : Realisation) → IsRealisation b.now laws loads r →
+        (i j : ℕ) → i < row_count b.now → j < row_count b.now →
+        IsNear (entry_unit r.denominator) (exact_entry r i j) (entry m.0 i j) (entry m.1 i j)) }
+    ensures fault { IfErr result (λ f. NamesFirstWide b.now f) }
+{
+    let nodes = b.at.as_slice().len() as u32;
+    let pairs = node_pairs(alloc, b)?;
+    let mut middles = SymBlocks::new(alloc, nodes, &pairs)?;
+    let mut radii = SymBlocks::new(alloc, nodes, &pairs)?;
+    for row in 0..6 * nodes {
+        if fill_row(b, &mut middles, &mut radii, row).is_err() {
+            return Err(AssembleFault::Wide { row });
+        }
+    }
+    // What every matrix keeps: it is symmetric, and 0 outside its pattern.
+    let _middles_nodes = middles.pattern(0);
+    let _radii_nodes = radii.pattern(0);
+    Ok((middles, radii))
+}
+
+/// The two nodes of each member.
+fn node_pairs(alloc: Global, b: &Built) -> Result<Vec<(u32, u32)>, AllocError>
+    ensures { IfOk result (λ pairs. pairs.items ≡ map (λ m. (m.n1, m.n2)) b.now.members) }
+{
+    let mut pairs = Vec::with_capacity(alloc, b.members.as_slice().len())?;
+    for m in b.members.as_slice() {
+        pairs.push((m.n1, m.n2))?;
+    }
+    Ok(pairs)
+}
