@@ -1,5 +1,2 @@
-mod FieldLemmas
-mod LengthLemmas
-mod LineLemmas
-mod ModelLemmas
 mod RunLemmas
+mod TableLemmas

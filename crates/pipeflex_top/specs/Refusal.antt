@@ -1,32 +1,29 @@
--- Why a text is refused.
-use Rattle.std.specs.Prelude.{◌≡◌, ℕ, ◌≤◌, List, ◌++◌, length, codes}
-use Rattle.pipeflex_top.specs.declared.one_straight.OneStraight.{OneStraight}
-use Rattle.pipeflex_top.specs.declared.one_straight.Refusal.{Refusal}
-use Rattle.pipeflex_top.specs.declared.one_straight.Refusal.TheVariants.{TooLong, Header, Unbuilt}
-use Rattle.pipeflex_top.specs.OneStraight.{header, IsTextOf}
+-- The line that tells why a text is refused.
+use Rattle.std.specs.Prelude.{ℕ, ◌==◌, List, [], ◌∷◌, if◌then◌else◌, codes}
+use Rattle.std.specs.Fmt.{decimal}
+use Rattle.model_text.specs.Grammar.{Refusal}
+use Rattle.text_words.specs.Fields.{line}
 
--- the text is within the limit of 4 MiB
-abbrev pub IsWithinLimit : List ℕ → Type 0
-IsWithinLimit text = length text ≤ 4194304
+-- the word of a number of refusal, 1 to 17
+abbrev pub refusal_word : ℕ → List ℕ
+refusal_word number =
+    if number == 1 then codes "toolong" else
+    if number == 2 then codes "badbyte" else
+    if number == 3 then codes "header" else
+    if number == 4 then codes "unknownrecord" else
+    if number == 5 then codes "wordcount" else
+    if number == 6 then codes "badnumber" else
+    if number == 7 then codes "outofrange" else
+    if number == 8 then codes "doubled" else
+    if number == 9 then codes "unknownname" else
+    if number == 10 then codes "zerolength" else
+    if number == 11 then codes "longelement" else
+    if number == 12 then codes "geometry" else
+    if number == 13 then codes "walltoothick" else
+    if number == 14 then codes "toomany" else
+    if number == 15 then codes "missing" else
+    if number == 16 then codes "front" else
+    codes "unbuilt"
 
--- the text begins with the header line
-abbrev pub HasHeader : List ℕ → Type 0
-HasHeader text = (rest : List ℕ) × (text ≡ header ++ rest)
-
--- the first of these that holds is why the text is refused
-abbrev pub IsRefused : Refusal → List ℕ → Type 0
-IsRefused TooLong text = ¬ (IsWithinLimit text)
-IsRefused Header text = IsWithinLimit text × ¬ (HasHeader text)
-IsRefused Unbuilt text = IsWithinLimit text × HasHeader text × ((m : OneStraight) → ¬ (IsTextOf text m))
-
--- the number of the refusal
-abbrev pub refusal_number : Refusal → ℕ
-refusal_number TooLong = 1
-refusal_number Header = 3
-refusal_number Unbuilt = 17
-
--- its word
-abbrev pub refusal_word : Refusal → List ℕ
-refusal_word TooLong = codes "toolong"
-refusal_word Header = codes "header"
-refusal_word Unbuilt = codes "unbuilt"
+abbrev pub refusal_line : Refusal → List ℕ
+refusal_line r = line (codes "refused" ∷ decimal r.number ∷ codes "line" ∷ decimal r.line ∷ refusal_word r.number ∷ [])

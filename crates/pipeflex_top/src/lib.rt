@@ -1,12 +1,10 @@
-//! From the text of a piping model to its report.
+//! From the text of a piping model to what the program writes.
 #![tactic(auto)]
 
-pub mod member_table;
-pub mod one_straight;
+mod commands;
+mod member_table;
 mod program;
-mod reading;
+mod refusal;
 mod reply;
-mod stiffness;
-pub mod straight;
 
 pub use program::run;

@@ -1,35 +1,74 @@
-//! The member table of one straight.
+//! The member table of a model.
 
-ghost use Rattle.std.specs.Prelude.{◌≡◌, ◌++◌, ◌∷◌, [], OnOk, IfOk, MatchResult, Ok, Err};
-ghost use Rattle.std.specs.List.{flat_map};
-ghost use Rattle.pipeflex_top.specs.declared.member_table.TableFault.TheVariants.{NoMemory};
-ghost use Rattle.pipeflex_top.specs.declared.one_straight.OneStraight.{OneStraight};
-ghost use Rattle.pipeflex_top.specs.declared.one_straight.Refusal.{Refusal};
-ghost use Rattle.pipeflex_top.specs.Enclosure.{PrintsEnclosures};
-ghost use Rattle.pipeflex_top.specs.MemberTable.{kappa_words, kappa_lines, members_of, element_lines, stiffness_of, table_of};
-ghost use Rattle.pipeflex_top.specs.OneStraight.{IsTextOf, IsValid};
+ghost use Rattle.std.specs.Prelude.{◌≡◌, ◌<◌, ◌++◌, length, OnOk, IfOk};
+ghost use Rattle.std.specs.List.{flat_map, slice_index_or};
+ghost use Rattle.model_types.specs.Ranges.{NodeInForm, MaterialInForm};
+ghost use Rattle.model_types.specs.Rules.{KeepsElement};
+ghost use Rattle.section_data.specs.Tube.{IsTube};
+ghost use Rattle.pipeflex_top.specs.Elements.{members_of, material_of, no_node, no_section};
+ghost use Rattle.pipeflex_top.specs.Enclosure.{EnclosesElement, PrintsEnclosures};
+ghost use Rattle.pipeflex_top.specs.MemberTable.{kappa_words, kappa_lines, element_text, table_of};
 ghost use Rattle.text_words.specs.Fields.{line};
-ghost use Rattle.pipeflex_top.specs.Refusal.{IsRefused};
 
-use crate::one_straight::{OneStraight, Refusal, read};
-use crate::stiffness::Kappas;
-use crate::straight::kappas;
 use flex_interval::{Iv, Wide};
 use itoa::Buffer;
-use std::alloc::{AllocError, Global};
+use member_set::Member;
+use model_types::{Element, Material, Model, NoMemory, Node, NodeId, Section, SectionId};
+use pipe_element::straight;
+use std::alloc::Global;
 use text_words::push_line;
-use thiserror::Error;
 
-/// Why there is no table.
-#[derive(Clone, Copy, Debug, PartialEq, Eq, Error)]
-pub enum TableFault {
-    #[error("{0}")]
-    Refused(Refusal),
-    #[error("out of memory")]
-    NoMemory,
+/// The member table: for each element in order the intervals of its members' stiffnesses, in 2^-20 N/m.
+pub fn member_table(alloc: Global, model: &Model) -> Result<Vec<u8>, NoMemory>
+    ensures table { IfOk result (λ bytes. bytes.items ≡ table_of model.now) }
+    ensures encloses { OnOk result (PrintsEnclosures model.now) }
+{
+    let mut out = Vec::new(alloc);
+    push_line(&mut out, &[b"pipeflex", b"members", b"1"])?;
+    push_elements(&mut out, model)?;
+    push_line(&mut out, &[b"end"])?;
+    Ok(out)
 }
 
-fn push_kappa(out: &mut Vec<u8>, j: u8, kappa: Iv) -> Result<(), AllocError>
+fn push_elements(out: &mut Vec<u8>, model: &Model) -> Result<(), NoMemory>
+    ensures bytes { OnOk result (out.new.items ≡ out.old.items ++ flat_map (element_text model.now) model.now.elements) }
+    ensures encloses { OnOk result (PrintsEnclosures model.now) }
+{
+    let elements = model.elements();
+    for element in elements {
+        push_element(out, model, element)?;
+    }
+    Ok(())
+}
+
+fn push_element(out: &mut Vec<u8>, model: &Model, element: &Element) -> Result<(), NoMemory>
+    requires { KeepsElement model.now.nodes model.now.sections element.now }
+    ensures bytes { OnOk result (out.new.items ≡ out.old.items ++ element_text model.now element.now) }
+    ensures encloses { EnclosesElement model.now element.now }
+{
+    let name = element.name.bytes();
+    match members(model, element) {
+        Ok(members) => {
+            push_line(out, &[b"element", name, b"straight", b"8"])?;
+            push_kappas(out, &members)?;
+        }
+        Err(Wide) => push_line(out, &[b"element", name, b"wide"])?,
+    }
+    Ok(())
+}
+
+fn push_kappas(out: &mut Vec<u8>, members: &[Member; 8]) -> Result<(), NoMemory>
+    ensures { OnOk result (out.new.items ≡ out.old.items ++ flat_map line (kappa_lines 1 members.now)) }
+{
+    let mut number = 1;
+    for member in members {
+        push_kappa(out, number, member.kappa)?;
+        number += 1;
+    }
+    Ok(())
+}
+
+fn push_kappa(out: &mut Vec<u8>, j: u8, kappa: Iv) -> Result<(), NoMemory>
     ensures { OnOk result (out.new.items ≡ out.old.items ++ line (kappa_words j kappa)) }
 {
     let (mut number, mut lo, mut hi) = (Buffer::new(), Buffer::new(), Buffer::new());
@@ -39,80 +78,45 @@ fn push_kappa(out: &mut Vec<u8>, j: u8, kappa: Iv) -> Result<(), AllocError>
     push_line(out, &[b"kappa", number, lo, hi])
 }
 
-// The eight members: stretch, twist, three of bending and three of shear.
-fn push_kappas(out: &mut Vec<u8>, kappas: &Kappas) -> Result<(), AllocError>
-    ensures { OnOk result (out.new.items ≡ out.old.items ++ flat_map line (kappa_lines 1 (members_of kappas.now))) }
+// The members of an element.
+fn members(model: &Model, element: &Element) -> Result<[Member; 8], Wide>
+    requires { KeepsElement model.now.nodes model.now.sections element.now }
+    ensures value { result ≡ members_of model.now element.now }
+    ensures encloses { EnclosesElement model.now element.now }
 {
-    push_kappa(out, 1, kappas.axial)?;
-    push_kappa(out, 2, kappas.torsion)?;
-    push_kappa(out, 3, kappas.bending)?;
-    push_kappa(out, 4, kappas.bending)?;
-    push_kappa(out, 5, kappas.bending)?;
-    push_kappa(out, 6, kappas.shear)?;
-    push_kappa(out, 7, kappas.shear)?;
-    push_kappa(out, 8, kappas.shear)?;
-    Ok(())
+    let from = node(model, element.from);
+    let to = node(model, element.to);
+    let section = section(model, element.section);
+    let material = material(model, section);
+    straight(element, from, to, section, material)
 }
 
-fn push_element(
-    out: &mut Vec<u8>,
-    name: &[u8],
-    kappas: Result<Kappas, Wide>,
-) -> Result<(), AllocError>
-    ensures { OnOk result (out.new.items ≡ out.old.items ++ flat_map line (element_lines name.now kappas)) }
+fn node(model: &Model, id: NodeId) -> &Node
+    requires { id.0 < length model.now.nodes }
+    ensures value { result.now ≡ slice_index_or model.now.nodes id.0 no_node }
+    ensures form { NodeInForm result.now }
 {
-    match kappas {
-        Ok(kappas) => {
-            push_line(out, &[b"element", name, b"straight", b"8"])?;
-            push_kappas(out, &kappas)?;
-        }
-        Err(Wide) => push_line(out, &[b"element", name, b"wide"])?,
-    }
-    Ok(())
+    let nodes = model.nodes();
+    &nodes[id.0 as usize]
 }
 
-fn stiffness(model: &OneStraight) -> Result<Kappas, Wide>
-    requires { IsValid model.now }
-    ensures value { result ≡ stiffness_of model.now }
-    ensures encloses { PrintsEnclosures model.now }
+fn section(model: &Model, id: SectionId) -> &Section
+    requires { id.0 < length model.now.sections }
+    ensures value { result.now ≡ slice_index_or model.now.sections id.0 no_section }
+    ensures tube { IsTube result.now }
+    ensures material { result.now.material.0 < length model.now.materials }
 {
-    let (material, section) = (&model.material, &model.section);
-    kappas(material.e, material.nu, section.d, section.t, model.span())
+    let sections = model.sections();
+    &sections[id.0 as usize]
 }
 
-fn table(alloc: Global, model: &OneStraight) -> Result<Vec<u8>, AllocError>
-    requires { IsValid model.now }
-    ensures bytes { IfOk result (λ bytes. bytes.items ≡ table_of model.now) }
-    ensures encloses { OnOk result (PrintsEnclosures model.now) }
+fn material<'a>(model: &'a Model, section: &Section) -> &'a Material
+    requires { section.now.material.0 < length model.now.materials }
+    ensures value { result.now ≡ material_of model.now section.now }
+    ensures form { MaterialInForm result.now }
 {
-    let mut out = Vec::new(alloc);
-    push_line(&mut out, &[b"pipeflex", b"members", b"1"])?;
-    push_element(&mut out, model.straight.name.bytes(), stiffness(model))?;
-    push_line(&mut out, &[b"end"])?;
-    Ok(out)
-}
-
-/// The member table of the straight that a text describes: for each of its eight members the interval of its
-/// stiffness, in 2^-20 N/m.
-pub fn member_table(alloc: Global, text: &[u8]) -> Result<Vec<u8>, TableFault>
-    // What is answered is the table of the text's model, or why the text is refused.
-    ensures table { IfOk result (λ bytes. (m : OneStraight) × IsTextOf text.now m × (bytes.items ≡ table_of m)) }
-    ensures encloses { OnOk result ((m : OneStraight) → IsTextOf text.now m → PrintsEnclosures m) }
-    ensures fault { (refusal : Refusal) → result ≡ Err (TableFault.Refused refusal) → IsRefused refusal text.now }
-
-    // A text of a model gets its table, unless memory runs out. Another is refused.
-    ensures accepted { (m : OneStraight) → IsTextOf text.now m
-        → MatchResult result (λ bytes. bytes.items ≡ table_of m) (λ fault. fault ≡ NoMemory) }
-    ensures refused { (refusal : Refusal) → IsRefused refusal text.now → result ≡ Err (TableFault.Refused refusal) }
-{
-    let model = match read(text) {
-        Ok(model) => model,
-        Err(refusal) => return Err(TableFault::Refused(refusal)),
-    };
-    match table(alloc, &model) {
-        Ok(bytes) => Ok(bytes),
-        Err(AllocError) => Err(TableFault::NoMemory),
-    }
+    let materials = model.materials();
+    &materials[section.material.0 as usize]
 }
 
 #[cfg(test)]

@@ -1,12 +1,12 @@
 //! The top call.
-ghost use Rattle.std.specs.Prelude.{◌≡◌, ◌≢◌, ◌⊎◌, ◌≤◌, List, ℕ, IfSome, length};
+ghost use Rattle.std.specs.Prelude.{◌≡◌, ◌≢◌, ◌⊎◌, ◌≤◌, List, ℕ, IfSome, IfOk, length};
 ghost use Rattle.flex_io.specs.Fault.{Rose};
 ghost use Rattle.flex_io.specs.Sink.{HasRoom, WritesAll, WritesPart};
 ghost use Rattle.flex_io.specs.declared.Status.{Status};
-ghost use Rattle.pipeflex_top.specs.declared.one_straight.OneStraight.{OneStraight};
+ghost use Rattle.model_text.specs.Grammar.{parsed};
+ghost use Rattle.pipeflex_top.specs.declared.commands.Command.TheVariants.{Members};
 ghost use Rattle.pipeflex_top.specs.Enclosure.{PrintsEnclosures};
-ghost use Rattle.pipeflex_top.specs.OneStraight.{IsTextOf};
-ghost use Rattle.pipeflex_top.specs.Run.{Answers, Decides, IsMembers};
+ghost use Rattle.pipeflex_top.specs.Run.{Answers, Asks, Decides, HasForm, message_bytes};
 
 use crate::reply::{Reply, reply_to};
 use flex_io::{Gate, Sink, Source, Status, put_all};
@@ -40,12 +40,12 @@ pub fn run<R: Threads + Sync, S: Source, K: Sink, E: Sink, G: Gate>(
         × WritesPart E.held err.old err.new message
         × ¬ (HasRoom (K.room out.old) (length output) × HasRoom (E.room err.old) (length message)) }
 
-    // Each exact stiffness of the straight lies in the pair that is printed for its member.
-    ensures enclosed { result ≡ Status.Done → IfSome (S.left source.old) (λ text.
-        (m : OneStraight) → IsTextOf text m → PrintsEnclosures m) }
+    // Each exact stiffness of each straight lies in the pair that is printed for its member.
+    ensures enclosed { result ≡ Status.Done → Asks words.now Members
+        → IfSome (S.left source.old) (λ text. IfOk (parsed text) PrintsEnclosures) }
 
     // Wrong words leave the source unread.
-    ensures unread { ¬ IsMembers words.now → source.new ≡ source.old }
+    ensures unread { ¬ HasForm words.now → source.new ≡ source.old }
 
     // A fault has its status only where its count rose. No count falls.
     ensures read_fault { result ≡ Status.ReadFault
@@ -57,11 +57,11 @@ pub fn run<R: Threads + Sync, S: Source, K: Sink, E: Sink, G: Gate>(
     ensures err_counted { E.faults err.old ≤ E.faults err.new }
 
     // Where no count rose, the words and the text decide how it ends, but for want of memory.
-    ensures wrong_words { ¬ IsMembers words.now
+    ensures wrong_words { ¬ HasForm words.now
         → ¬ Rose (K.faults out.old) (K.faults out.new)
         → ¬ Rose (E.faults err.old) (E.faults err.new)
         → result ≡ Status.Usage }
-    ensures decided { IsMembers words.now
+    ensures decided { HasForm words.now
         → ¬ Rose (S.faults source.old) (S.faults source.new)
         → ¬ Rose (K.faults out.old) (K.faults out.new)
         → ¬ Rose (E.faults err.old) (E.faults err.new)
@@ -80,11 +80,11 @@ fn deliver<K: Sink, E: Sink>(reply: &Reply, out: &mut K, err: &mut E) -> Status
     ensures out_whole { result ≢ Status.WriteFault
         → WritesAll K.held out.old out.new reply.now.output.items }
     ensures err_whole { result ≢ Status.WriteFault
-        → WritesAll E.held err.old err.new reply.now.message.now }
+        → WritesAll E.held err.old err.new (message_bytes reply.now.message) }
     ensures out_part { WritesPart K.held out.old out.new reply.now.output.items }
-    ensures err_part { WritesPart E.held err.old err.new reply.now.message.now }
+    ensures err_part { WritesPart E.held err.old err.new (message_bytes reply.now.message) }
     ensures room { HasRoom (K.room out.old) (length reply.now.output.items)
-        → HasRoom (E.room err.old) (length reply.now.message.now)
+        → HasRoom (E.room err.old) (length (message_bytes reply.now.message))
         → result ≢ Status.WriteFault }
 
     ensures write_fault { result ≡ Status.WriteFault
@@ -95,7 +95,7 @@ fn deliver<K: Sink, E: Sink>(reply: &Reply, out: &mut K, err: &mut E) -> Status
     if put_all(out, &reply.output).is_err() {
         return Status::WriteFault;
     }
-    if put_all(err, reply.message).is_err() {
+    if put_all(err, reply.message.bytes()).is_err() {
         return Status::WriteFault;
     }
     reply.status

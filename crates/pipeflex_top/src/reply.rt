@@ -1,12 +1,26 @@
 //! What the program has to say, before the first byte of it is written.
-ghost use Rattle.std.specs.Prelude.{◌≡◌, ◌≤◌, ◌↔◌, [], IsTrue};
+ghost use Rattle.std.specs.Prelude.{◌≡◌, ◌≤◌, ℕ, List, [], IfOk, OnOk, Err, Ok};
 ghost use Rattle.flex_io.specs.Fault.{Rose};
-ghost use Rattle.pipeflex_top.specs.Run.{Answers, IsMembers, refusal_line};
+ghost use Rattle.model_text.specs.Grammar.{parsed};
+ghost use Rattle.model_types.specs.Lists.{Lists};
+ghost use Rattle.pipeflex_top.specs.Enclosure.{PrintsEnclosures};
+ghost use Rattle.pipeflex_top.specs.Run.{Answers, HasForm, IsAnswer, message_bytes, output_of};
 
-use crate::member_table::{TableFault, member_table};
-use crate::one_straight::{LIMIT, Refusal};
+use crate::commands::{Command, command_of};
+use crate::member_table::member_table;
+use crate::refusal::refusal_line;
 use flex_io::{Source, Status, TakeFault, take_all};
-use std::alloc::Global;
+use model_text::{TextFault, echo, read};
+use model_types::{Model, NoMemory};
+use std::alloc::{AllocError, Global};
+
+/// The most bytes that a text may have.
+const LIMIT: usize = 4_194_304;
+
+const USAGE: &[u8] =
+    b"usage: pipeflex analyse [--workers N] | members | echo | generate M | summary M [--workers N]\n";
+
+const READ_FAULT: &[u8] = b"read fault\n";
 
 /// How a run is to end, and what it is to write.
 #[derive(Drop)]
@@ -15,72 +29,108 @@ pub struct Reply {
     /// For the standard output.
     pub output: Vec<u8>,
     /// For the standard error.
-    pub message: &'static [u8],
+    pub message: Message,
+}
+
+/// What is to be told.
+#[derive(Drop)]
+pub enum Message {
+    Fixed(&'static [u8]),
+    Built(Vec<u8>),
+}
+
+impl Message {
+    /// Its bytes.
+    pub fn bytes(&self) -> &[u8]
+        ensures { result.now ≡ message_bytes self.now }
+    {
+        match self {
+            Message::Fixed(bytes) => bytes,
+            Message::Built(bytes) => bytes.as_slice(),
+        }
+    }
 }
 
 /// Reads what the words ask to be read, and makes the reply to it.
 pub fn reply_to<S: Source>(alloc: Global, words: &[String], source: &mut S) -> Reply
     ensures answers { Answers words.now (S.left source.old) (S.left source.new)
-        result.output.items result.message.now result.status }
+        result.output.items (message_bytes result.message) result.status }
     ensures read_fault { result.status ≡ Status.ReadFault
         → Rose (S.faults source.old) (S.faults source.new) }
     ensures counted { S.faults source.old ≤ S.faults source.new }
-    ensures unread { ¬ IsMembers words.now → source.new ≡ source.old }
+    ensures unread { ¬ HasForm words.now → source.new ≡ source.old }
 {
-    if !is_members(words) {
+    let Some(command) = command_of(words) else {
         return line_only(alloc, Status::Usage, USAGE);
-    }
-    let text = match take_all(alloc, source, LIMIT) {
-        Ok(text) => text,
-        Err(TakeFault::Read) => return line_only(alloc, Status::ReadFault, READ_FAULT),
-        Err(TakeFault::NoMemory) => return line_only(alloc, Status::NoMemory, b""),
     };
-    match member_table(alloc, &text) {
-        Ok(output) => Reply {
-            status: Status::Done,
-            output,
-            message: b"",
-        },
-        Err(TableFault::Refused(r)) => line_only(alloc, Status::Refused, line_of(r)),
-        Err(TableFault::NoMemory) => line_only(alloc, Status::NoMemory, b""),
+    match take_all(alloc, source, LIMIT) {
+        Ok(text) => answer(alloc, command, &text),
+        Err(TakeFault::Read) => line_only(alloc, Status::ReadFault, READ_FAULT),
+        Err(TakeFault::NoMemory) => line_only(alloc, Status::NoMemory, b""),
     }
 }
 
-const USAGE: &[u8] =
-    b"usage: pipeflex analyse [--workers N] | members | echo | generate M | summary M [--workers N]\n";
+// The reply to a text.
+fn answer(alloc: Global, command: Command, text: &[u8]) -> Reply
+    ensures { IsAnswer command text.now result.output.items (message_bytes result.message) result.status }
+{
+    match read(alloc, text) {
+        Ok(model) => accepted(alloc, command, &model),
+        Err(TextFault::Refused { number, line }) => refused(alloc, number, line),
+        Err(TextFault::NoMemory) => line_only(alloc, Status::NoMemory, b""),
+    }
+}
 
-const READ_FAULT: &[u8] = b"read fault\n";
+// The reply to the text of a model.
+fn accepted(alloc: Global, command: Command, model: &Model) -> Reply
+    ensures { (text : List ℕ) → parsed text ≡ Ok model.now
+        → IsAnswer command text result.output.items (message_bytes result.message) result.status }
+{
+    match output(alloc, command, model) {
+        Ok(output) => Reply {
+            status: Status::Done,
+            output,
+            message: Message::Fixed(b""),
+        },
+        Err(AllocError) => line_only(alloc, Status::NoMemory, b""),
+    }
+}
+
+// What the command makes of a model.
+fn output(alloc: Global, command: Command, model: &Model) -> Result<Vec<u8>, NoMemory>
+    ensures output { IfOk result (λ bytes. bytes.items ≡ output_of command model.now) }
+    ensures encloses { command ≡ Command.Members → OnOk result (PrintsEnclosures model.now) }
+{
+    match command {
+        Command::Members => member_table(alloc, model),
+        Command::Echo => echo(alloc, model),
+    }
+}
+
+// The reply to a text that is refused by this number at this line.
+fn refused(alloc: Global, number: u8, line: u32) -> Reply
+    ensures { (command : Command) → (text : List ℕ) → parsed text ≡ Err (record { number = number; line = line })
+        → IsAnswer command text result.output.items (message_bytes result.message) result.status }
+{
+    match refusal_line(alloc, number, line) {
+        Ok(message) => Reply {
+            status: Status::Refused,
+            output: Vec::new(alloc),
+            message: Message::Built(message),
+        },
+        Err(AllocError) => line_only(alloc, Status::NoMemory, b""),
+    }
+}
 
 // A reply that writes this line to the standard error and nothing else.
 fn line_only(alloc: Global, status: Status, message: &'static [u8]) -> Reply
     ensures status { result.status ≡ status }
     ensures output { result.output.items ≡ [] }
-    ensures message { result.message.now ≡ message.now }
+    ensures message { message_bytes result.message ≡ message.now }
 {
     Reply {
         status,
         output: Vec::new(alloc),
-        message,
-    }
-}
-
-// The line that tells a refusal.
-fn line_of(r: Refusal) -> &'static [u8]
-    ensures { result.now ≡ refusal_line r }
-{
-    match r {
-        Refusal::TooLong => b"refused 1 line 1 toolong\n",
-        Refusal::Header => b"refused 3 line 1 header\n",
-        Refusal::Unbuilt => b"refused 17 line 1 unbuilt\n",
-    }
-}
-
-// Whether the words ask for the member table.
-fn is_members(words: &[String]) -> bool
-    ensures { IsTrue result ↔ IsMembers words.now }
-{
-    match words {
-        [word] => word.as_str() == "members",
-        _ => false,
+        message: Message::Fixed(message),
     }
 }

@@ -2,6 +2,7 @@ use super::*;
 use flex_io::{Idle, SafeSink, SafeSource, Status, StdSource, take_all};
 use std::io;
 use std::io::{ErrorKind, Read};
+use std::process::Abort;
 use std::test::Fail;
 
 const STRAIGHT: &str = "\
@@ -30,52 +31,142 @@ end
 const USAGE: &str =
     "usage: pipeflex analyse [--workers N] | members | echo | generate M | summary M [--workers N]\n";
 
+// What the words and the text are answered with: the status, the output and the message.
+fn check<R: Threads + Sync + Abort>(
+    rt: &R,
+    alloc: Global,
+    words: &[&str],
+    text: &str,
+    status: Status,
+    out: &str,
+    err: &str,
+) -> Result<(), Fail> {
+    let mut source = SafeSource::new(text.as_bytes().to_vec(alloc)?);
+    let mut written = SafeSink::new(alloc, out.len())?;
+    let mut told = SafeSink::new(alloc, err.len())?;
+    let mut line = Vec::new(alloc);
+    for word in words {
+        line.push(word.to_string(alloc)?)?;
+    }
+    let ended = run(
+        rt,
+        alloc,
+        &line,
+        &mut source,
+        &mut written,
+        &mut told,
+        &Idle,
+    );
+    assert_eq!(rt; ended, status, "{text}");
+    assert_eq!(rt; written.bytes(), out.as_bytes(), "{text}");
+    assert_eq!(rt; told.bytes(), err.as_bytes(), "{text}");
+    Ok(())
+}
+
 #[test]
-fn answers_words_and_texts(rt: HostRuntime) -> Result<(), Fail> {
-    for (words, text, status, out, err) in [
-        (["members", ""], STRAIGHT, Status::Done, TABLE, ""),
-        (
-            ["members", ""],
-            "",
-            Status::Refused,
-            "",
-            "refused 3 line 1 header\n",
-        ),
-        (
-            ["members", ""],
-            "pipeflex 1\n",
-            Status::Refused,
-            "",
-            "refused 17 line 1 unbuilt\n",
-        ),
-        (["", ""], STRAIGHT, Status::Usage, "", USAGE),
-        (["member", ""], STRAIGHT, Status::Usage, "", USAGE),
-        (["members", "members"], STRAIGHT, Status::Usage, "", USAGE),
-        (["analyse", ""], STRAIGHT, Status::Usage, "", USAGE),
-    ] {
-        let mut source = SafeSource::new(text.as_bytes().to_vec(rt.alloc())?);
-        let mut written = SafeSink::new(rt.alloc(), TABLE.len())?;
-        let mut told = SafeSink::new(rt.alloc(), USAGE.len())?;
-        let mut line = Vec::new(rt.alloc());
-        for word in words {
-            if !word.is_empty() {
-                line.push(word.to_string(rt.alloc())?)?;
-            }
-        }
-        let ended = run(
-            &rt,
-            rt.alloc(),
-            &line,
-            &mut source,
-            &mut written,
-            &mut told,
-            &Idle,
-        );
-        assert_eq!(rt; ended, status, "{words:?} on {text}");
-        assert_eq!(rt; written.bytes(), out.as_bytes(), "{words:?} on {text}");
-        assert_eq!(rt; told.bytes(), err.as_bytes(), "{words:?} on {text}");
+fn answers_words(rt: HostRuntime) -> Result<(), Fail> {
+    let words: [(&[&str], Status, &str, &str); 8] = [
+        (&["members"], Status::Done, TABLE, ""),
+        (&["echo"], Status::Done, STRAIGHT, ""),
+        (&[], Status::Usage, "", USAGE),
+        (&["member"], Status::Usage, "", USAGE),
+        (&["members", "echo"], Status::Usage, "", USAGE),
+        (&["analyse"], Status::Usage, "", USAGE),
+        (&["generate", "1"], Status::Usage, "", USAGE),
+        (&["summary", "1"], Status::Usage, "", USAGE),
+    ];
+    for (words, status, out, err) in words {
+        check(&rt, rt.alloc(), words, STRAIGHT, status, out, err)?;
     }
     Ok(())
+}
+
+#[test]
+fn refuses_texts(rt: HostRuntime) -> Result<(), Fail> {
+    for (text, line) in [
+        ("", "refused 3 line 1 header\n"),
+        ("pipeflex 1\n", "refused 15 line 1 missing\n"),
+        ("pipeflex 1\nnode a 0 0 0\r\n", "refused 2 line 2 badbyte\n"),
+        ("pipeflex 1\nnodes a 0 0 0\n", "refused 4 line 2 unknownrecord\n"),
+        ("pipeflex 1\nmaterial st 200000", "refused 5 line 2 wordcount\n"),
+        (
+            "pipeflex 1\nmaterial st 2x 300 12000 7850\n",
+            "refused 6 line 2 badnumber\n",
+        ),
+        (
+            "pipeflex 1\n\nnode a 0 0 10000000001\n",
+            "refused 7 line 3 outofrange\n",
+        ),
+        (
+            "pipeflex 1\nnode a 0 0 0\nnode a 1 1 1\n",
+            "refused 8 line 3 doubled\n",
+        ),
+        (
+            "pipeflex 1\nsection s st 100000 10000 0 0\n",
+            "refused 9 line 2 unknownname\n",
+        ),
+        ("pipeflex 1\nbend b\n", "refused 17 line 2 unbuilt\n"),
+    ] {
+        check(&rt, rt.alloc(), &["members"], text, Status::Refused, "", line)?;
+        check(&rt, rt.alloc(), &["echo"], text, Status::Refused, "", line)?;
+    }
+    Ok(())
+}
+
+const HEAD: &str = "\
+pipeflex 1
+material st 200000 300 12000 7850
+section s st 100000 10000 0 0
+node a 0 0 0
+";
+
+#[test]
+fn judges_one_more_line(rt: HostRuntime) -> Result<(), Fail> {
+    for (lines, line) in [
+        ("node b 30000000 0 0\nstraight p a b s\n", None),
+        (
+            "node b 30000001 0 0\nstraight p a b s\n",
+            Some("refused 11 line 6 longelement\n"),
+        ),
+        (
+            "node b 0 0 0\nstraight p a b s\n",
+            Some("refused 10 line 6 zerolength\n"),
+        ),
+        ("node a 1 1 1\n", Some("refused 8 line 5 doubled\n")),
+        (
+            "section t st 100000 50000 0 0\n",
+            Some("refused 13 line 5 walltoothick\n"),
+        ),
+    ] {
+        let mut text = HEAD.to_string(rt.alloc())?;
+        text.push_str(lines)?;
+        match line {
+            Some(line) => check(&rt, rt.alloc(), &["echo"], text.as_str(), Status::Refused, "", line)?,
+            None => check(&rt, rt.alloc(), &["echo"], text.as_str(), Status::Done, text.as_str(), "")?,
+        }
+    }
+    Ok(())
+}
+
+#[test]
+fn echoes_the_canonical_text(rt: HostRuntime) -> Result<(), Fail> {
+    let slanted = "\
+pipeflex 1
+material st 200000 300 12000 7850
+section s st 100000 10000 0 0
+node a 0 0 0
+node b 1000000 1000000 0
+straight p a b s
+";
+    let loose = "# a line\n\tpipeflex  1 # the header
+node a 0 0 0
+node\tb 1000000 1000000 0 \t# slanted
+
+material st 200000 300 12000 7850
+section s st 100000 10000 0 0
+straight p a b s";
+    check(&rt, rt.alloc(), &["echo"], slanted, Status::Done, slanted, "")?;
+    check(&rt, rt.alloc(), &["echo"], loose, Status::Done, slanted, "")
 }
 
 #[test]

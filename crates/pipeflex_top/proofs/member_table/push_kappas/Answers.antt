@@ -1,5 +1,18 @@
-use Rattle.std.proofs.Common.{append_assoc, append-nil}
+use Rattle.std.proofs.Common.{◌≡◌, ◌<◌, ◌++◌, length, sym, subst, arith}
+use Rattle.text_words.specs.Fields.{line}
+use Rattle.member_set.specs.declared.members.Member.{Member}
+use Rattle.pipeflex_top.specs.MemberTable.{kappa_words}
+use Rattle.pipeflex_top.proofs.TableLemmas.{member_written}
 use Rattle.pipeflex_top.proofs.member_table.push_kappas.Goals as goal
 
-pub returns : goal.returns
-returns c = rw (c.in_ok-push_kappa-8.ensures, c.in_ok-push_kappa-7.ensures, c.in_ok-push_kappa-6.ensures, c.in_ok-push_kappa-5.ensures, c.in_ok-push_kappa-4.ensures, c.in_ok-push_kappa-3.ensures, c.in_ok-push_kappa-2.ensures, c.in_ok-push_kappa.ensures) (simp (append_assoc, append-nil))
+pub loop-member-preserved : goal.loop-member-preserved
+loop-member-preserved c =
+    let so_far = c.loop-member.invariant in
+    let inside : c.loop-member.member-index < length c.args.members.now = omega (arith, c.type_inv.members) in
+    let out = c.loop-member.out.items in
+    let new = c.push_kappa.new.out.items in
+    let step = subst (λ (m : Member). new ≡ out ++ line (kappa_words c.loop-member.number m.kappa)) (sym c.member-item.is) c.in_ok-push_kappa.ensures in
+    record {
+      counted = omega arith;
+      written = member_written c.args.out.now.items out new c.args.members.now c.loop-member.member-index c.loop-member.number c.member-item.result inside c.member-item.is so_far.counted so_far.written step;
+    }

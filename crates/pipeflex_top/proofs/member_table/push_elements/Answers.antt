@@ -1,0 +1,20 @@
+use Rattle.std.proofs.Common.{◌++◌, ap, subst, ◌∙◌}
+use Rattle.std.proofs.lemmas.List.Elements.{All-more}
+use Rattle.pipeflex_top.specs.Enclosure.{EnclosesElement}
+use Rattle.pipeflex_top.specs.MemberTable.{element_text}
+use Rattle.pipeflex_top.proofs.TableLemmas.{flat_map-taken}
+use Rattle.pipeflex_top.proofs.member_table.push_elements.Goals as goal
+
+pub loop-element-preserved : goal.loop-element-preserved
+loop-element-preserved c =
+    let model = c.args.model.now in
+    let elements = c.elements-elements.result.now in
+    let i = c.loop-element.element-index in
+    let element = c.element-item.result in
+    let inside = c.loop-element-test.true in
+    let so_far = c.loop-element.invariant in
+    let here = c.in_ok-push_element.ensures in
+    record {
+      written = here.bytes ∙ ap (λ bytes. bytes ++ element_text model element) so_far.written ∙ flat_map-taken (element_text model) c.args.out.now.items elements i element inside c.element-item.is;
+      enclosed = All-more (EnclosesElement model) elements i element inside so_far.enclosed (subst (EnclosesElement model) c.element-item.is here.encloses);
+    }
