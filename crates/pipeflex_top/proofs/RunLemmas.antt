@@ -1,13 +1,11 @@
 -- What a text is, of which only the bytes up to the one past the limit were read.
-use Rattle.std.proofs.Common.{◌≡◌, ◌≢◌, ℕ, ◌<◌, ◌≤◌, false, true, List, ◌++◌, Option, None, Some, IfSome, IfOk, Ok, Err, IsOk, IsErr, String, Global, arith, refl, sym, ap, subst, ◌∙◌, inl, inr, length, take, drop, take-append-drop, length-take, take_all, lt-ltb}
+use Rattle.std.proofs.Common.{◌≡◌, ◌≢◌, ℕ, ◌<◌, ◌≤◌, false, true, List, ◌++◌, Option, None, Some, IfSome, IfOk, Err, IsOk, IsErr, String, Global, arith, refl, sym, ap, subst, ◌∙◌, inl, inr, length, take, drop, take-append-drop, length-take, take_all, lt-ltb}
 use Rattle.std.proofs.lemmas.Bool.{cases_lt}
 use Rattle.std.proofs.lemmas.List.{append_cancel_left}
 use Rattle.std.specs.Io.KnownBytes.{Consumes}
-use Rattle.flex_io.specs.Source.{ConsumesAtMost}
 use Rattle.flex_io.specs.declared.outcome.Status.{Status}
 use Rattle.flex_io.specs.declared.outcome.Status.TheVariants.{Done, Uncertified, Refused, Usage, ReadFault, WriteFault, NoMemory}
 use Rattle.model_text.specs.Grammar.{longest_text, parsed}
-use Rattle.model_types.specs.Lists.{Lists}
 use Rattle.pipeflex_top.specs.declared.commands.Command.{Command}
 use Rattle.pipeflex_top.specs.declared.commands.Command.TheVariants.{Members, Echo}
 use Rattle.pipeflex_top.specs.Enclosure.{PrintsEnclosures}
@@ -28,9 +26,9 @@ parsed_long text long = rw (lt-ltb longest_text (length text) long) refl
 -- a text is judged as its bytes up to the one past the limit are
 parsed-taken : (text : List ℕ) → parsed (take 4194305 text) ≡ parsed text
 parsed-taken text = elim (cases_lt longest_text (length text)) [
-    | inl long ↦ parsed_long (take 4194305 text) (omega (arith, length-take 4194305 text)) ∙ sym (parsed_long text long)
-    | inr short ↦ ap parsed (take_all 4194305 text (omega arith))
-  ]
+  | inl long ↦ parsed_long (take 4194305 text) (omega (arith, length-take 4194305 text)) ∙ sym (parsed_long text long)
+  | inr short ↦ ap parsed (take_all 4194305 text (omega arith))
+]
 
 -- what the bytes that were taken are judged as
 parsed-whole : (left : Option (List ℕ)) (bytes : List ℕ) → IfSome left (λ text. bytes ≡ take 4194305 text) → IfSome left (λ text. parsed text ≡ parsed bytes)

@@ -87,8 +87,14 @@ fn refuses_texts(rt: HostRuntime) -> Result<(), Fail> {
         ("", "refused 3 line 1 header\n"),
         ("pipeflex 1\n", "refused 15 line 1 missing\n"),
         ("pipeflex 1\nnode a 0 0 0\r\n", "refused 2 line 2 badbyte\n"),
-        ("pipeflex 1\nnodes a 0 0 0\n", "refused 4 line 2 unknownrecord\n"),
-        ("pipeflex 1\nmaterial st 200000", "refused 5 line 2 wordcount\n"),
+        (
+            "pipeflex 1\nnodes a 0 0 0\n",
+            "refused 4 line 2 unknownrecord\n",
+        ),
+        (
+            "pipeflex 1\nmaterial st 200000",
+            "refused 5 line 2 wordcount\n",
+        ),
         (
             "pipeflex 1\nmaterial st 2x 300 12000 7850\n",
             "refused 6 line 2 badnumber\n",
@@ -107,7 +113,15 @@ fn refuses_texts(rt: HostRuntime) -> Result<(), Fail> {
         ),
         ("pipeflex 1\nbend b\n", "refused 17 line 2 unbuilt\n"),
     ] {
-        check(&rt, rt.alloc(), &["members"], text, Status::Refused, "", line)?;
+        check(
+            &rt,
+            rt.alloc(),
+            &["members"],
+            text,
+            Status::Refused,
+            "",
+            line,
+        )?;
         check(&rt, rt.alloc(), &["echo"], text, Status::Refused, "", line)?;
     }
     Ok(())
@@ -141,8 +155,24 @@ fn judges_one_more_line(rt: HostRuntime) -> Result<(), Fail> {
         let mut text = HEAD.to_string(rt.alloc())?;
         text.push_str(lines)?;
         match line {
-            Some(line) => check(&rt, rt.alloc(), &["echo"], text.as_str(), Status::Refused, "", line)?,
-            None => check(&rt, rt.alloc(), &["echo"], text.as_str(), Status::Done, text.as_str(), "")?,
+            Some(line) => check(
+                &rt,
+                rt.alloc(),
+                &["echo"],
+                text.as_str(),
+                Status::Refused,
+                "",
+                line,
+            )?,
+            None => check(
+                &rt,
+                rt.alloc(),
+                &["echo"],
+                text.as_str(),
+                Status::Done,
+                text.as_str(),
+                "",
+            )?,
         }
     }
     Ok(())
@@ -165,7 +195,15 @@ node\tb 1000000 1000000 0 \t# slanted
 material st 200000 300 12000 7850
 section s st 100000 10000 0 0
 straight p a b s";
-    check(&rt, rt.alloc(), &["echo"], slanted, Status::Done, slanted, "")?;
+    check(
+        &rt,
+        rt.alloc(),
+        &["echo"],
+        slanted,
+        Status::Done,
+        slanted,
+        "",
+    )?;
     check(&rt, rt.alloc(), &["echo"], loose, Status::Done, slanted, "")
 }
 
