@@ -14,10 +14,12 @@ use std::alloc::Global;
 use std::thread::Threads;
 
 /// Runs the program on the words of its command line, without the program's name, and answers how
-/// it ended. It returns for every input.
+/// it ended. It returns for every input. On the model of the text, `members` writes the member table
+/// and `echo` the canonical text.
 ///
 /// The words are tested first. Then the source is read to its end, or to the byte past the limit of
-/// a text. Then the text is judged and the output is built whole, before its first byte is written.
+/// a text. Then the text is judged and the output is built whole, before its first byte is written. A
+/// text that is refused has one line on `err`, which tells the number, the line and the word.
 pub fn run<R: Threads + Sync, S: Source, K: Sink, E: Sink, G: Gate>(
     rt: &R,
     alloc: Global,

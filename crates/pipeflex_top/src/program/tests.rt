@@ -111,6 +111,10 @@ fn refuses_texts(rt: HostRuntime) -> Result<(), Fail> {
             "pipeflex 1\nsection s st 100000 10000 0 0\n",
             "refused 9 line 2 unknownname\n",
         ),
+        (
+            "pipeflex 1\nmaterial st 200000 300 12000 7850\nsection s st 100000 50000 0 0\n",
+            "refused 13 line 3 walltoothick\n",
+        ),
         ("pipeflex 1\nbend b\n", "refused 17 line 2 unbuilt\n"),
     ] {
         check(
