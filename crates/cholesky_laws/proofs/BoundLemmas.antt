@@ -101,8 +101,15 @@ square_large : (x : ℤ) → 2 ^ 57 ≤ unsigned_abs x → pos (2 ^ 114) ≤ℤ 
 square_large (pos n) large = omega (arith, ints, mul-le-mul large large)
 square_large (negsuc n) large = omega (arith, ints, mul-le-mul large large)
 
+-- what is left of a diagonal entry is below it
+pub left_after-low : (a : ℕ → ℕ → ℤ) (n i : ℕ) → unsigned_abs (a i i) < 2 ^ 113 → left_after a n i i <ℤ pos (2 ^ 113)
+unfolding left_after
+left_after-low a n i small =
+    let taken = row_squares-nonnegative a i n in
+    omega (arith, int_sums)
+
 -- an entry of 2^57 or more in a row before its diagonal leaves nothing for the pivot of that row
-pub pivot_after_large : (a : ℕ → ℕ → ℤ) (i k : ℕ) → k < i → unsigned_abs (a i i) < 2 ^ 113 → 2 ^ 57 ≤ unsigned_abs (cholesky a i k) → pivot a i <ℤ pos 1
+pub pivot_after_large : (a : ℕ → ℕ → ℤ) (i k : ℕ) → k < i → a i i <ℤ pos (2 ^ 113) → 2 ^ 57 ≤ unsigned_abs (cholesky a i k) → pivot a i <ℤ pos 1
 unfolding left_after
 pivot_after_large a i k lt small large =
     let square = square_large (cholesky a i k) large in

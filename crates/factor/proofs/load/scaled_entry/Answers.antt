@@ -1,0 +1,38 @@
+use Rattle.std.proofs.Common.{◌≡◌, ◌<◌, ◌∙◌, ap, sym, arith, ℕ, pos, ◌^◌, ◌-ℤ◌, ◌*ℤ◌, cond}
+use Rattle.std.specs.Int.RustNames.{unsigned_abs}
+use Rattle.std.proofs.lemmas.Bool.{eq-eqb, ne_eqb}
+use Rattle.int_laws.proofs.Sums.{int_sums}
+use Rattle.sym_blocks.specs.Matrix.{entry}
+use Rattle.cholesky_laws.specs.Recurrence.{scaled, freedom_at}
+use Rattle.factor.proofs.CastLemmas.{scaled_less, scaled_whole}
+use Rattle.factor.proofs.load.scaled_entry.Goals as goal
+
+pub returns-then-i-j : goal.returns-then-i-j
+unfolding scaled
+returns-then-i-j c =
+    let p = c.args.problem.now in
+    let km = entry p.matrix.now in
+    let i = c.args.i in
+    let j = c.args.j in
+    let at : c.get-stiffness.result ≡ km (freedom_at p.order.now i) (freedom_at p.order.now j) =
+    c.get-stiffness.ensures.value ∙ ap (λ (x : ℕ). km x c.freedom-2.result) c.freedom.ensures ∙ ap (λ (x : ℕ). km (freedom_at p.order.now i) x) c.freedom-2.ensures
+    in
+    let small : unsigned_abs c.get-stiffness.result < 2 ^ 60 = rw at (c.requires.problem.small (freedom_at p.order.now i) (freedom_at p.order.now j)) in
+    scaled_less c.get-stiffness.result p.shift small (omega (arith, int_sums, c.requires.problem.shift_low, c.requires.problem.shift_high))
+    ∙ ap (λ z. pos (2 ^ 52) *ℤ (z -ℤ p.shift)) at
+    ∙ ap (λ t. pos (2 ^ 52) *ℤ (km (freedom_at p.order.now i) (freedom_at p.order.now j) -ℤ cond t p.shift (pos 0))) (sym (eq-eqb i j c.if-i-j.true))
+
+pub returns-else-i-j : goal.returns-else-i-j
+unfolding scaled
+returns-else-i-j c =
+    let p = c.args.problem.now in
+    let km = entry p.matrix.now in
+    let i = c.args.i in
+    let j = c.args.j in
+    let at : c.get-stiffness.result ≡ km (freedom_at p.order.now i) (freedom_at p.order.now j) =
+    c.get-stiffness.ensures.value ∙ ap (λ (x : ℕ). km x c.freedom-2.result) c.freedom.ensures ∙ ap (λ (x : ℕ). km (freedom_at p.order.now i) x) c.freedom-2.ensures
+    in
+    let small : unsigned_abs c.get-stiffness.result < 2 ^ 60 = rw at (c.requires.problem.small (freedom_at p.order.now i) (freedom_at p.order.now j)) in
+    scaled_whole c.get-stiffness.result small
+    ∙ ap (λ z. pos (2 ^ 52) *ℤ (z -ℤ pos 0)) at
+    ∙ ap (λ t. pos (2 ^ 52) *ℤ (km (freedom_at p.order.now i) (freedom_at p.order.now j) -ℤ cond t p.shift (pos 0))) (sym (ne_eqb i j c.if-i-j.false))

@@ -1,0 +1,103 @@
+use Rattle.std.proofs.Common.{◌≡◌, ℕ, ◌<◌, List, length, ◌∙◌, sym, subst, arith, Vec, Global, ℤ, to_z, of_z, All}
+use Rattle.std.specs.Int.{w128}
+use Rattle.std.specs.Vec.{with_items}
+use Rattle.std.proofs.lemmas.Result.{err_from_is_err_and}
+use Rattle.std.proofs.lemmas.List.{with_items_is}
+use Rattle.rising_list.specs.Rising.{IsRising}
+use Rattle.rising_list.specs.Lists.{contents, list_of}
+use Rattle.rising_list.proofs.ListsLemmas.{contents-read, length-contents}
+use Rattle.factor.specs.State.{matrix_of, ArePanels, AreUsers}
+use Rattle.factor.specs.Columns.{HasColumns, ListsInAll}
+use Rattle.factor.specs.Scalar.{IsBreakdownAt}
+use Rattle.factor.specs.declared.panel.Panel.{Panel}
+use Rattle.factor.specs.declared.fault.ScalarFault.{ScalarFault}
+use Rattle.factor.specs.declared.fault.ScalarFault.TheVariants.{NoMemory}
+use Rattle.factor.proofs.StepLemmas.{no_memory, shift_is, panels_more, users_more, panel_shapes, factor_is}
+use Rattle.factor.proofs.recurrence.scalar.Goals as goal
+
+pub eliminate_node-requires-clause-users : goal.eliminate_node-requires-clause-users
+eliminate_node-requires-clause-users c =
+    let n = c.loop-node.node in
+    let P : List ℕ → Type 0 = λ us. AreUsers c.deref-in-loop-node.result.now n n us in
+    let Q : List Panel → Type 0 = λ ps. AreUsers ps n n (list_of (contents c.loop-node.users.items) n) in
+    let lt : n < length c.loop-node.users.items = omega (arith, length-contents c.loop-node.users.items, c.loop-node.invariant.1) in
+    let read = contents-read c.loop-node.users.items n c.index.result.now lt c.index.ensures in
+    subst P (read ∙ sym c.deref-in-loop-node-2.ensures.value) (subst Q (sym c.deref-in-loop-node.ensures.value) (c.loop-node.invariant.2 n))
+
+pub returns-in_err-panel : goal.returns-in_err-panel
+returns-in_err-panel c =
+    let p = err_from_is_err_and c.from_residual-in_err-panel.result c.from_residual-in_err-panel.ensures.1 in
+    let e : p.0 ≡ c.in_err-panel.field-0.0 = p.2 in
+    let n = c.loop-node.node in
+    let P : ℤ → ScalarFault → Type 0 = λ s f. IsBreakdownAt (matrix_of c.args.k.now c.args.order.now s) c.args.order.now c.args.parents.now n f in
+    let shift : to_z w128 (of_z w128 c.args.shift) ≡ c.args.shift = shift_is c.args.shift c.requires.shift_low c.requires.shift_high in
+    rw p.1 (n, omega arith, subst (λ (f : ScalarFault). P c.args.shift f) (sym e) (subst (λ (s : ℤ). P s c.in_err-panel.field-0.0) shift c.in_err-panel.ensures))
+
+pub list_in_all-requires-clause-in_range : goal.list_in_all-requires-clause-in_range
+list_in_all-requires-clause-in_range c =
+    let known = c.in_ok-panel.ensures in
+    let len = length-contents c.loop-node.users.items in
+    let P : List ℕ → Type 0 = λ xs. All (λ q. q < length c.deref_mut.result.now) xs in
+    subst P (sym c.deref-in-loop-node-3.ensures.value)
+    (λ k d kl. let b = known.panel.from_own k d kl in omega (arith, b.1, len, c.loop-node.invariant.1, c.deref_mut.ensures.len, c.loop-node.users.ok.0))
+
+pub list_in_all-requires-clause-rising : goal.list_in_all-requires-clause-rising
+list_in_all-requires-clause-rising c q =
+    let P : List (Vec ℕ Global) → Type 0 = λ vs. IsRising (list_of (contents vs) q) in
+    subst P (sym c.deref_mut.ensures.value) (c.loop-node.invariant.2 q).rising
+
+pub returns-in_err-list_in_all : goal.returns-in_err-list_in_all
+returns-in_err-list_in_all c =
+    let p = err_from_is_err_and c.from_residual-in_err-list_in_all.result c.from_residual-in_err-list_in_all.ensures.1 in
+    let e : p.0 ≡ NoMemory = p.2 in
+    rw p.1 (no_memory (matrix_of c.args.k.now c.args.order.now c.args.shift) c.args.order.now c.args.parents.now p.0 e)
+
+pub returns-in_err-push : goal.returns-in_err-push
+returns-in_err-push c =
+    let p = err_from_is_err_and c.from_residual-in_err-push.result c.from_residual-in_err-push.ensures.1 in
+    let e : p.0 ≡ NoMemory = p.2 in
+    rw p.1 (no_memory (matrix_of c.args.k.now c.args.order.now c.args.shift) c.args.order.now c.args.parents.now p.0 e)
+
+pub loop-node-preserved : goal.loop-node-preserved
+loop-node-preserved c =
+    let n = c.loop-node.node in
+    let size = length c.args.order.now in
+    let panels = c.loop-node.panels.items in
+    let p = c.in_ok-panel.panel in
+    let a = matrix_of c.args.k.now c.args.order.now (to_z w128 (of_z w128 c.args.shift)) in
+    let users = c.loop-node.users in
+    let lists = c.list_in_all.new.lists in
+    let after : (with_items users lists).items ≡ lists = with_items_is users lists (omega (arith, c.list_in_all.auto.lists, c.deref_mut.ensures.len, users.ok.0)) in
+    let P : List (Vec ℕ Global) → Type 0 = λ vs. ListsInAll (contents vs) (contents lists) c.deref-in-loop-node-3.result.now n in
+    let Q : List ℕ → Type 0 = λ xs. ListsInAll (contents users.items) (contents lists) xs n in
+    let listed = subst Q c.deref-in-loop-node-3.ensures.value (subst P c.deref_mut.ensures.value c.in_ok-list_in_all.ensures) in
+    rw (c.in_ok-push.ensures.items, after) (
+      panels_more a c.args.parents.now size n panels p c.loop-node.invariant.0 c.in_ok-panel.ensures,
+      listed.count ∙ c.loop-node.invariant.1,
+      λ q. users_more n q panels p (contents users.items) (contents lists) c.loop-node.invariant.0.count (c.loop-node.invariant.2 q) listed,
+    )
+
+pub columns-requires-clause-panels : goal.columns-requires-clause-panels
+columns-requires-clause-panels c =
+    let size = length c.args.order.now in
+    let a = matrix_of c.args.k.now c.args.order.now (to_z w128 (of_z w128 c.args.shift)) in
+    let end : c.loop-node.node ≡ size = omega arith in
+    let P : ℕ → Type 0 = λ n. ArePanels a c.args.parents.now size n c.loop-node.panels.items in
+    rw c.deref-2.ensures.value (panel_shapes a c.args.parents.now size c.loop-node.panels.items (subst P end c.loop-node.invariant.0))
+
+pub returns-in_err-columns : goal.returns-in_err-columns
+returns-in_err-columns c =
+    let p = err_from_is_err_and c.from_residual-in_err-columns.result c.from_residual-in_err-columns.ensures.1 in
+    let e : p.0 ≡ NoMemory = p.2 in
+    rw p.1 (no_memory (matrix_of c.args.k.now c.args.order.now c.args.shift) c.args.order.now c.args.parents.now p.0 e)
+
+pub returns : goal.returns
+returns c =
+    let size = length c.args.order.now in
+    let a = matrix_of c.args.k.now c.args.order.now c.args.shift in
+    let end : c.loop-node.node ≡ size = omega arith in
+    let shift : to_z w128 (of_z w128 c.args.shift) ≡ c.args.shift = shift_is c.args.shift c.requires.shift_low c.requires.shift_high in
+    let P : ℕ → ℤ → Type 0 = λ n s. ArePanels (matrix_of c.args.k.now c.args.order.now s) c.args.parents.now size n c.loop-node.panels.items in
+    let all = subst (λ (s : ℤ). P size s) shift (subst (λ (n : ℕ). P n (to_z w128 (of_z w128 c.args.shift))) end c.loop-node.invariant.0) in
+    let Q : List Panel → Type 0 = λ ps. HasColumns c.args.order.now ps c.in_ok-columns.field-0 in
+    factor_is a c.args.order.now c.args.parents.now c.loop-node.panels.items c.in_ok-columns.field-0 all (subst Q c.deref-2.ensures.value c.in_ok-columns.ensures)

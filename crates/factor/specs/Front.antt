@@ -1,0 +1,13 @@
+-- The nodes that a node's columns reach.
+use Rattle.std.specs.Prelude.{◌≡◌, ℕ, ◌+◌, ◌*◌, ◌/◌, ◌%◌, ◌<◌, List, length, slice_index, slice_index_or, Contains, ◌⊎◌, ◌↔◌, ℤ, pos}
+use Rattle.rising_list.specs.Rising.{IsRising}
+
+-- the numbers above `least` are put in, and the list stays in order
+pub record InsertsLater (old new numbers : List ℕ) (least : ℕ) : Type 0 where
+  pub rising : IsRising new
+  pub members : (x : ℕ) → Contains new x ↔ (Contains old x ⊎ (Contains numbers x × (least < x)))
+
+-- the entries of a node's columns, six by six for each node
+pub record IsLoaded (a : ℕ → ℕ → ℤ) (nodes : List ℕ) (node : ℕ) (work : List ℤ) : Type 0 where
+  pub whole : length work ≡ 36 * length nodes
+  pub value : (s : ℕ) → s < 36 * length nodes → slice_index_or work s (pos 0) ≡ a (6 * slice_index nodes (s / 36) + s % 36 / 6) (6 * node + s % 6)

@@ -1,0 +1,104 @@
+-- The state of a factorisation, one node after another.
+use Rattle.std.specs.Prelude.{◌≡◌, ℕ, ◌+◌, ◌*◌, ◌/◌, ◌%◌, ◌^◌, ◌<◌, ◌≤◌, List, [], Option, Some, length, map, slice_index, slice_index_or, Contains, All, IfSome, ◌↔◌, ◌⊎◌, Bool, false, nat_eq, if◌then◌else◌, ℤ, pos, ◌≤ℤ◌}
+use Rattle.std.specs.Option.{option_map_or}
+use Rattle.int_laws.specs.Sums.{sum_below}
+use Rattle.std.specs.Int.RustNames.{unsigned_abs}
+use Rattle.rising_list.specs.Rising.{IsRising}
+use Rattle.sym_blocks.specs.Matrix.{Matrix, node_count, HasBlock, IsSymmetricByBlocks, entry as stiffness}
+use Rattle.cholesky_laws.specs.Recurrence.{left_after, scaled}
+use Rattle.cholesky_laws.specs.Elimination.{parent_of}
+use Rattle.cholesky_laws.specs.Breakdown.{Passes, squares}
+use Rattle.factor_data.specs.Order.{IsOrder}
+use Rattle.factor.specs.Panel.{IsPanel, kept_for}
+use Rattle.factor.specs.declared.panel.Panel.{Panel}
+
+-- the matrix that is factorised
+abbrev pub matrix_of : Matrix → List ℕ → ℤ → ℕ → ℕ → ℤ
+matrix_of k order shift = scaled (stiffness k) order shift
+
+-- each parent is a later node
+abbrev pub AreParents : List (Option ℕ) → ℕ → Type 0
+AreParents parents size = (p : ℕ) → p < size → IfSome (parent_of parents p) (λ u. (p < u) × (u < size))
+
+-- places are those of the nodes in the order
+pub record IsInverse (order places : List ℕ) : Type 0 where
+  pub count : length places ≡ length order
+  pub place : (m : ℕ) → m < length order → slice_index places m < length order
+  pub node : (m : ℕ) → m < length order → slice_index order (slice_index places m) ≡ m
+
+-- what is factorised is within the limits
+pub record IsProblem (k : Matrix) (order places : List ℕ) (parents : List (Option ℕ)) (shift : ℤ) : Type 0 where
+  pub few : length order ≤ 8000
+  pub ordered : IsOrder order
+  pub nodes : node_count k ≡ length order
+  pub small : (i j : ℕ) → unsigned_abs (stiffness k i j) < 2 ^ 60
+  pub shift_low : pos 0 ≤ℤ shift
+  pub shift_high : shift ≤ℤ pos (2 ^ 44)
+  pub parents_count : length parents ≡ length order
+  pub parents_later : AreParents parents (length order)
+  pub inverse : IsInverse order places
+
+-- the nodes that a panel's columns reach, its entries and its sums of squares
+abbrev pub nodes_at : List Panel → ℕ → List ℕ
+nodes_at panels d = slice_index_or (map (λ p. p.nodes.items) panels) d []
+
+abbrev pub entries_at : List Panel → ℕ → List ℤ
+entries_at panels d = slice_index_or (map (λ p. p.entries.items) panels) d []
+
+abbrev pub sums_at : List Panel → ℕ → List ℤ
+sums_at panels d = slice_index_or (map (λ p. p.sums.items) panels) d []
+
+-- what is known of a node's panel
+pub record IsNodePanel (a : ℕ → ℕ → ℤ) (parents : List (Option ℕ)) (size n : ℕ) (nodes : List ℕ) (entries sums : List ℤ) : Type 0 where
+  pub panel : IsPanel a parents size n nodes entries sums
+  pub parent : (u : ℕ) → parent_of parents n ≡ Some u → Contains nodes u
+  pub passes : Passes a parents size n
+
+-- the panels are those of the nodes before n
+pub record ArePanels (a : ℕ → ℕ → ℤ) (parents : List (Option ℕ)) (size n : ℕ) (panels : List Panel) : Type 0 where
+  pub count : length panels ≡ n
+  pub known : (d : ℕ) → d < n → IsNodePanel a parents size d (nodes_at panels d) (entries_at panels d) (sums_at panels d)
+
+-- users are the nodes before n whose columns reach node q, in order
+pub record AreUsers (panels : List Panel) (n q : ℕ) (users : List ℕ) : Type 0 where
+  pub rising : IsRising users
+  pub reaching : (d : ℕ) → Contains users d ↔ ((d < n) × Contains (nodes_at panels d) q)
+
+-- the nodes that a node's columns reach are kept
+pub record IsFront (k : Matrix) (order : List ℕ) (parents : List (Option ℕ)) (panels : List Panel) (users : List ℕ) (n : ℕ) (nodes : List ℕ) : Type 0 where
+  pub rising : IsRising nodes
+  pub from_own : All (λ q. (n ≤ q) × (q < length order)) nodes
+  pub own : Contains nodes n
+  pub parent : (u : ℕ) → parent_of parents n ≡ Some u → Contains nodes u
+  pub matrix : (q : ℕ) → n < q → q < length order → HasBlock k (slice_index order n) (slice_index order q) → Contains nodes q
+  pub reached : (d q : ℕ) → Contains users d → n < q → Contains (nodes_at panels d) q → Contains nodes q
+  pub kept : IsSymmetricByBlocks k
+
+-- node n is the parent of node d
+abbrev pub is_parent : List (Option ℕ) → ℕ → ℕ → Bool
+is_parent parents n d = option_map_or (λ v. nat_eq v n) (parent_of parents d) false
+
+-- what is left for the rows of the nodes kept, after the columns of m nodes
+abbrev pub HoldsLeft : (ℕ → ℕ → ℤ) → ℕ → ℕ → List ℕ → List ℤ → ℕ → Type 0
+HoldsLeft a size n nodes work m = (q t : ℕ) → n ≤ q → q < size → t < 36 → kept_for 36 nodes work q t ≡ left_after a (6 * m) (6 * q + t / 6) (6 * n + t % 6)
+
+-- what is left for a node's rows, after the columns of all nodes before
+pub record IsLeftFor (a : ℕ → ℕ → ℤ) (size n : ℕ) (nodes : List ℕ) (work : List ℤ) : Type 0 where
+  pub whole : length work ≡ 36 * length nodes
+  pub holds : HoldsLeft a size n nodes work n
+
+-- the squares of a node's rows in the subtrees of its children before m
+abbrev pub HoldsChildren : (ℕ → ℕ → ℤ) → List (Option ℕ) → ℕ → ℕ → List ℕ → List ℤ → ℕ → Type 0
+HoldsChildren a parents size n nodes sums m =
+    (q r : ℕ) → n ≤ q → q < size → r < 6 → kept_for 6 nodes sums q r ≡ sum_below m (λ d. if is_parent parents n d then squares a parents d (6 * q + r) else pos 0)
+
+pub record AreChildSums (a : ℕ → ℕ → ℤ) (parents : List (Option ℕ)) (size n : ℕ) (nodes : List ℕ) (sums : List ℤ) : Type 0 where
+  pub whole : length sums ≡ 6 * length nodes
+  pub holds : HoldsChildren a parents size n nodes sums n
+
+-- a node with its parent
+pub record IsWithParent (parents : List (Option ℕ)) (n : ℕ) (nodes : List ℕ) : Type 0 where
+  pub rising : IsRising nodes
+  pub own : Contains nodes n
+  pub parent : (u : ℕ) → parent_of parents n ≡ Some u → Contains nodes u
+  pub only : (x : ℕ) → Contains nodes x → (x ≡ n) ⊎ (parent_of parents n ≡ Some x)

@@ -1,0 +1,181 @@
+ghost use Rattle.std.specs.Prelude.{◌≡◌, ℕ, ◌+◌, ◌*◌, ◌<◌, ◌≤◌, IfOk, MatchResult, length, slice_index, []};
+ghost use Rattle.factor.specs.State.{IsProblem, matrix_of, ArePanels, AreUsers, IsFront, IsNodePanel, IsLeftFor, AreChildSums, is_parent, IsWithParent};
+ghost use Rattle.factor.specs.Scalar.{IsBreakdownAt, fault_of};
+
+use crate::eliminate::{Breakdown, eliminate};
+use crate::fault::ScalarFault;
+use crate::front::{insert_later, places_of};
+use crate::gather::{add_squares, gather};
+use crate::load::{Problem, load};
+use crate::squares::add_own;
+use rising_list::insert_rising;
+use std::alloc::{AllocError, Global};
+
+/// A node's six columns.
+#[derive(Drop)]
+pub struct Panel {
+    // The node and the later nodes that its columns reach, rising.
+    pub nodes: Vec<u32>,
+    // Six entries for each of their rows.
+    pub entries: Vec<i64>,
+    // The squares of each row, summed over the node's subtree.
+    pub sums: Vec<i128>,
+}
+
+// The columns of a node, from those of the nodes before; `users` are those that reach it.
+pub fn eliminate_node(
+    alloc: Global,
+    problem: &Problem,
+    panels: &[Panel],
+    users: &[u32],
+    node: u32,
+) -> Result<Panel, ScalarFault>
+    requires problem { IsProblem problem.now.matrix.now problem.now.order.now problem.now.places.now problem.now.parents.now problem.now.shift }
+    requires node_in { node < length problem.now.order.now }
+    requires panels { ArePanels (matrix_of problem.now.matrix.now problem.now.order.now problem.now.shift) problem.now.parents.now (length problem.now.order.now) node panels.now }
+    requires users { AreUsers panels.now node node users.now }
+    ensures { MatchResult result
+        (λ p. IsNodePanel (matrix_of problem.now.matrix.now problem.now.order.now problem.now.shift) problem.now.parents.now (length problem.now.order.now) node p.nodes.items p.entries.items p.sums.items)
+        (IsBreakdownAt (matrix_of problem.now.matrix.now problem.now.order.now problem.now.shift) problem.now.order.now problem.now.parents.now node) }
+{
+    let nodes = front(alloc, problem, panels, users, node)?;
+    let work = left_for(alloc, problem, &nodes, panels, users, node)?;
+    let entries = match eliminate(alloc, &work) {
+        Ok(entries) => entries,
+        Err(breakdown) => return Err(fault_at(problem.order, node, breakdown)),
+    };
+    let mut sums = child_sums(alloc, problem, &nodes, panels, users, node)?;
+    if !add_own(&mut sums, &entries) {
+        return Err(ScalarFault::Wide {
+            node: problem.order[node as usize],
+        });
+    }
+    Ok(Panel {
+        nodes,
+        entries,
+        sums,
+    })
+}
+
+// The nodes that a node's columns reach: itself, its parent, its later neighbours, and the later nodes that the columns
+// reach that reach it.
+fn front(
+    alloc: Global,
+    problem: &Problem,
+    panels: &[Panel],
+    users: &[u32],
+    node: u32,
+) -> Result<Vec<u32>, AllocError>
+    requires problem { IsProblem problem.now.matrix.now problem.now.order.now problem.now.places.now problem.now.parents.now problem.now.shift }
+    requires node_in { node < length problem.now.order.now }
+    requires panels { ArePanels (matrix_of problem.now.matrix.now problem.now.order.now problem.now.shift) problem.now.parents.now (length problem.now.order.now) node panels.now }
+    requires users { AreUsers panels.now node node users.now }
+    ensures { IfOk result (λ nodes. IsFront problem.now.matrix.now problem.now.order.now problem.now.parents.now panels.now users.now node nodes.items) }
+{
+    let mut nodes = near(alloc, problem, node)?;
+    for &user in users {
+        insert_later(&mut nodes, &panels[user as usize].nodes, node)?;
+    }
+    Ok(nodes)
+}
+
+// The node itself, its parent and its later neighbours.
+fn near(alloc: Global, problem: &Problem, node: u32) -> Result<Vec<u32>, AllocError>
+    requires problem { IsProblem problem.now.matrix.now problem.now.order.now problem.now.places.now problem.now.parents.now problem.now.shift }
+    requires node_in { node < length problem.now.order.now }
+    ensures { IfOk result (λ nodes. IsFront problem.now.matrix.now problem.now.order.now problem.now.parents.now [] [] node nodes.items) }
+{
+    let mut nodes = with_parent(alloc, problem.parents, node)?;
+    let neighbours = problem.matrix.pattern(problem.order[node as usize]);
+    insert_later(
+        &mut nodes,
+        &places_of(alloc, problem.places, neighbours)?,
+        node,
+    )?;
+    Ok(nodes)
+}
+
+fn with_parent(alloc: Global, parents: &[Option<u32>], node: u32) -> Result<Vec<u32>, AllocError>
+    requires { node < length parents.now }
+    ensures { IfOk result (λ nodes. IsWithParent parents.now node nodes.items) }
+{
+    let mut nodes = vec![in alloc; node]?;
+    match parents[node as usize] {
+        Some(parent) => insert_rising(&mut nodes, parent)?,
+        None => {}
+    }
+    Ok(nodes)
+}
+
+// What is left for a node's rows after the columns before.
+fn left_for(
+    alloc: Global,
+    problem: &Problem,
+    nodes: &[u32],
+    panels: &[Panel],
+    users: &[u32],
+    node: u32,
+) -> Result<Vec<i128>, AllocError>
+    requires problem { IsProblem problem.now.matrix.now problem.now.order.now problem.now.places.now problem.now.parents.now problem.now.shift }
+    requires node_in { node < length problem.now.order.now }
+    requires panels { ArePanels (matrix_of problem.now.matrix.now problem.now.order.now problem.now.shift) problem.now.parents.now (length problem.now.order.now) node panels.now }
+    requires users { AreUsers panels.now node node users.now }
+    requires front { IsFront problem.now.matrix.now problem.now.order.now problem.now.parents.now panels.now users.now node nodes.now }
+    ensures { IfOk result (λ work. IsLeftFor (matrix_of problem.now.matrix.now problem.now.order.now problem.now.shift) (length problem.now.order.now) node nodes.now work.items) }
+{
+    let mut work = load(alloc, problem, nodes, node)?;
+    for &user in users {
+        let panel = &panels[user as usize];
+        gather(&mut work, nodes, &panel.nodes, &panel.entries, node);
+    }
+    Ok(work)
+}
+
+// The squares of a node's rows in its children's subtrees.
+fn child_sums(
+    alloc: Global,
+    problem: &Problem,
+    nodes: &[u32],
+    panels: &[Panel],
+    users: &[u32],
+    node: u32,
+) -> Result<Vec<i128>, AllocError>
+    requires problem { IsProblem problem.now.matrix.now problem.now.order.now problem.now.places.now problem.now.parents.now problem.now.shift }
+    requires node_in { node < length problem.now.order.now }
+    requires panels { ArePanels (matrix_of problem.now.matrix.now problem.now.order.now problem.now.shift) problem.now.parents.now (length problem.now.order.now) node panels.now }
+    requires users { AreUsers panels.now node node users.now }
+    requires front { IsFront problem.now.matrix.now problem.now.order.now problem.now.parents.now panels.now users.now node nodes.now }
+    ensures { IfOk result (λ sums. AreChildSums (matrix_of problem.now.matrix.now problem.now.order.now problem.now.shift) problem.now.parents.now (length problem.now.order.now) node nodes.now sums.items) }
+{
+    let mut sums = vec![in alloc; 0; 6 * nodes.len()]?;
+    for &user in users {
+        if is_child(problem.parents, user, node) {
+            let panel = &panels[user as usize];
+            add_squares(&mut sums, nodes, &panel.nodes, &panel.sums, node);
+        }
+    }
+    Ok(sums)
+}
+
+fn is_child(parents: &[Option<u32>], user: u32, node: u32) -> bool
+    requires { user < length parents.now }
+    ensures { result ≡ is_parent parents.now node user }
+{
+    match parents[user as usize] {
+        Some(parent) => parent == node,
+        None => false,
+    }
+}
+
+// The fault of a node at which its columns break down.
+fn fault_at(order: &[u32], node: u32, breakdown: Breakdown) -> ScalarFault
+    requires { node < length order.now }
+    ensures { result ≡ fault_of (slice_index order.now node) breakdown }
+{
+    let node = order[node as usize];
+    match breakdown {
+        Breakdown::Pivot(dof) => ScalarFault::Pivot { node, dof },
+        Breakdown::Wide => ScalarFault::Wide { node },
+        Breakdown::NoMemory => ScalarFault::NoMemory,
+    }
+}
