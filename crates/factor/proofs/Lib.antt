@@ -13,3 +13,4 @@ pub mod ListLemmas
 pub mod NodeLemmas
 pub mod ColumnLemmas
 pub mod StepLemmas
+pub mod TestLemmas

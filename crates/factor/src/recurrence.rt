@@ -128,6 +128,19 @@ mod tests {
     use super::*;
     use std::test::Fail;
 
+    // 2^52 (2^60 - 1) lies between the squares of 2^56 - 1 and of 2^56.
+    #[test]
+    fn largest_stiffness(rt: HostRuntime) -> Result<(), Fail> {
+        let mut largest = SymBlocks::new(rt.alloc(), 1, &[])?;
+        for freedom in 0..6 {
+            largest.add(freedom, freedom, (1 << 60) - 1);
+        }
+        let factor = scalar(rt.alloc(), &largest, &[0], &[None], 0)?;
+        assert_eq!(rt; factor.get(3, 3), (1 << 56) - 1);
+        assert_eq!(rt; factor.get(4, 3), 0);
+        Ok(())
+    }
+
     // Nothing is left for the first freedom of a node without stiffness.
     #[test]
     fn without_stiffness(rt: HostRuntime) -> Result<(), Fail> {
