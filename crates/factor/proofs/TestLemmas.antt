@@ -1,9 +1,8 @@
 -- A diagonal of stiffnesses, one after another.
-use Rattle.std.proofs.Common.{◌≡◌, ℕ, ◌+◌, ◌-◌, ◌*◌, ◌/◌, ◌^◌, ◌<◌, ◌≤◌, length, Contains, ◌∙◌, sym, ap, refl, arith, subst, inl, inr, ℤ, pos, ◌+ℤ◌}
+use Rattle.std.proofs.Common.{◌≡◌, ℕ, ◌+◌, ◌-◌, ◌^◌, ◌<◌, ◌≤◌, length, ◌∙◌, ap, arith, inl, inr, pos, ◌+ℤ◌}
 use Rattle.std.specs.Int.RustNames.{unsigned_abs}
 use Rattle.std.proofs.lemmas.Bool.{cases_eq}
-use Rattle.int_laws.proofs.Sums.{int_sums}
-use Rattle.sym_blocks.specs.Matrix.{Matrix, node_count, HasBlock, AddsAt, entry, pattern_of}
+use Rattle.sym_blocks.specs.Matrix.{Matrix, node_count, HasBlock, AddsAt, entry}
 
 -- entries on the diagonal, before a freedom of the only node
 pub record IsDiagonalTo (m : Matrix) (freedom : ℕ) : Type 0 where

@@ -3,6 +3,7 @@ pub mod State
 pub mod Squares
 pub mod Columns
 pub mod Scalar
+pub mod SmallNode
 pub mod Front
 pub mod Gather
 pub mod Eliminate

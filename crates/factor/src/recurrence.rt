@@ -7,6 +7,7 @@ ghost use Rattle.factor_data.specs.Order.{IsOrder};
 ghost use Rattle.factor.specs.State.{AreParents, matrix_of};
 ghost use Rattle.factor.specs.Columns.{ListsInAll, ArePanelShapes, HasColumns, AreColumnRows, AreColumnValues};
 ghost use Rattle.factor.specs.Scalar.{IsFactorOf, IsBreakdown};
+ghost use Rattle.factor.specs.SmallNode.{IsSmallNode};
 
 use crate::fault::ScalarFault;
 use crate::front::inverse;
@@ -126,7 +127,55 @@ fn column_values(alloc: Global, entries: &[i64], column: usize) -> Result<Vec<i6
 #[cfg(test)]
 mod tests {
     use super::*;
+    use factor_data::NoMemory;
     use std::test::Fail;
+
+    // A node without stiffness.
+    fn small_node(alloc: Global) -> Result<SymBlocks, NoMemory>
+        ensures { IfOk result (λ m. IsSmallNode m) }
+    {
+        Ok(SymBlocks::new(alloc, 1, &[])?)
+    }
+
+    // Makes an entry of a node and its mirror `v`.
+    fn put(matrix: &mut SymBlocks, row: u32, col: u32, v: i128)
+        requires node { IsSmallNode matrix.old }
+        requires row { row < 6 }
+        requires col { col < 6 }
+        requires value { unsigned_abs v ≤ 16 }
+        ensures { IsSmallNode matrix.new }
+    {
+        // What every matrix keeps: it is symmetric.
+        let _nodes = matrix.pattern(0);
+        let change = v - matrix.get(row, col);
+        matrix.add(row, col, change);
+    }
+
+    // In units of 2^52: 4 has the root 2^27, and 6 over it is 6 * 2^25; 10 less the square of that, 36 * 2^50, is 2^52,
+    // with the root 2^26. Then a stiffness below 0 is a breakdown at a middle row.
+    #[test]
+    fn by_hand(rt: HostRuntime) -> Result<(), Fail> {
+        let mut matrix = small_node(rt.alloc())?;
+        put(&mut matrix, 0, 0, 4);
+        put(&mut matrix, 1, 0, 6);
+        put(&mut matrix, 1, 1, 10);
+        put(&mut matrix, 2, 2, 1);
+        put(&mut matrix, 3, 3, 1);
+        put(&mut matrix, 4, 4, 1);
+        put(&mut matrix, 5, 5, 1);
+        let factor = scalar(rt.alloc(), &matrix, &[0], &[None], 0)?;
+        assert_eq!(rt; factor.get(0, 0), 1 << 27);
+        assert_eq!(rt; factor.get(1, 0), 6 << 25);
+        assert_eq!(rt; factor.get(1, 1), 1 << 26);
+        assert_eq!(rt; factor.get(0, 1), 0);
+        assert_eq!(rt; factor.get(5, 5), 1 << 26);
+        put(&mut matrix, 2, 2, -1);
+        match scalar(rt.alloc(), &matrix, &[0], &[None], 0) {
+            Err(ScalarFault::Pivot { node, dof }) => assert_eq!(rt; (node, dof), (0, 2)),
+            _ => assert!(rt; false, "no pivot"),
+        }
+        Ok(())
+    }
 
     // 2^52 (2^60 - 1) lies between the squares of 2^56 - 1 and of 2^56.
     #[test]
