@@ -4,6 +4,7 @@ pub mod Squares
 pub mod Columns
 pub mod Scalar
 pub mod SmallNode
+pub mod SmallChain
 pub mod Front
 pub mod Gather
 pub mod Eliminate

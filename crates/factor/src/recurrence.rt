@@ -1,13 +1,14 @@
-ghost use Rattle.std.specs.Prelude.{◌≡◌, ℕ, ◌*◌, ◌^◌, ◌<◌, ◌≤◌, All, IfOk, OnOk, MatchResult, length, replicate, [], pos, ◌≤ℤ◌};
+ghost use Rattle.std.specs.Prelude.{◌≡◌, ℕ, ◌+◌, ◌*◌, ◌/◌, ◌^◌, ◌<◌, ◌≤◌, All, Contains, IfOk, OnOk, MatchResult, length, replicate, slice_index, [], pos, ◌≤ℤ◌};
 ghost use Rattle.std.specs.Int.RustNames.{unsigned_abs};
 ghost use Rattle.rising_list.specs.Rising.{IsRising};
 ghost use Rattle.rising_list.specs.Lists.{contents, list_of};
-ghost use Rattle.sym_blocks.specs.Matrix.{node_count, entry};
+ghost use Rattle.sym_blocks.specs.Matrix.{node_count, HasBlock, entry};
 ghost use Rattle.factor_data.specs.Order.{IsOrder};
 ghost use Rattle.factor.specs.State.{AreParents, matrix_of};
 ghost use Rattle.factor.specs.Columns.{ListsInAll, ArePanelShapes, HasColumns, AreColumnRows, AreColumnValues};
 ghost use Rattle.factor.specs.Scalar.{IsFactorOf, IsBreakdown};
 ghost use Rattle.factor.specs.SmallNode.{IsSmallNode};
+ghost use Rattle.factor.specs.SmallChain.{IsSmallChain};
 
 use crate::fault::ScalarFault;
 use crate::front::inverse;
@@ -198,6 +199,89 @@ mod tests {
             Err(ScalarFault::Pivot { node, dof }) => assert_eq!(rt; (node, dof), (0, 0)),
             _ => assert!(rt; false, "no pivot"),
         }
+        Ok(())
+    }
+
+    // A chain's pairs of neighbours.
+    fn chain_pairs(alloc: Global, nodes: u32) -> Result<Vec<(u32, u32)>, AllocError>
+        ensures inside { IfOk result (λ v. All (λ p. (p.0 < nodes) × (p.1 < nodes)) v.items) }
+        ensures all { IfOk result (λ v. (n : ℕ) → n + 1 < nodes → Contains v.items (n, n + 1)) }
+    {
+        let mut pairs = Vec::new(alloc);
+        for node in 1..nodes {
+            pairs.push((node - 1, node))?;
+        }
+        Ok(pairs)
+    }
+
+    // Makes an entry of a chain and its mirror `v`.
+    fn put_in_chain(matrix: &mut SymBlocks, row: u32, col: u32, v: i128)
+        requires chain { IsSmallChain matrix.old }
+        requires in_pattern { HasBlock matrix.old (row / 6) (col / 6) }
+        requires value { unsigned_abs v ≤ 2 ^ 22 }
+        ensures chain { IsSmallChain matrix.new }
+        ensures nodes { node_count matrix.new ≡ node_count matrix.old }
+    {
+        // What every matrix keeps: it is symmetric.
+        let _nodes = matrix.pattern(0);
+        let change = v - matrix.get(row, col);
+        matrix.add(row, col, change);
+    }
+
+    // A chain in which each freedom is coupled with that of the next node.
+    fn chain_matrix(alloc: Global, nodes: u32) -> Result<SymBlocks, NoMemory>
+        requires some { 1 ≤ nodes }
+        requires few { nodes ≤ 8000 }
+        ensures nodes { IfOk result (λ m. node_count m ≡ nodes) }
+        ensures chain { IfOk result (λ m. IsSmallChain m) }
+    {
+        let pairs = chain_pairs(alloc, nodes)?;
+        let mut matrix = SymBlocks::new(alloc, nodes, &pairs)?;
+        for row in 0..6 * nodes {
+            put_in_chain(&mut matrix, row, row, 4 << 20);
+        }
+        for row in 0..6 * (nodes - 1) {
+            put_in_chain(&mut matrix, row + 6, row, -(1 << 20));
+        }
+        Ok(matrix)
+    }
+
+    // The nodes in their own order.
+    fn chain_order(alloc: Global, nodes: u32) -> Result<Vec<u32>, AllocError>
+        ensures count { IfOk result (λ v. length v.items ≡ nodes) }
+        ensures order { IfOk result (λ v. IsOrder v.items) }
+    {
+        let mut order = Vec::new(alloc);
+        for node in 0..nodes {
+            order.push(node)?;
+        }
+        Ok(order)
+    }
+
+    // The next node of each, and none of the last.
+    fn chain_parents(alloc: Global, nodes: u32) -> Result<Vec<Option<u32>>, AllocError>
+        requires { 1 ≤ nodes }
+        ensures count { IfOk result (λ v. length v.items ≡ nodes) }
+        ensures later { IfOk result (λ v. AreParents v.items nodes) }
+    {
+        let mut parents = Vec::new(alloc);
+        for node in 1..nodes {
+            parents.push(Some(node))?;
+        }
+        parents.push(None)?;
+        Ok(parents)
+    }
+
+    // 2^52 (2^22 - 2^10) lies between the squares of 137,422,175,231 and of the next number, by Python. Two nodes apart
+    // nothing is coupled.
+    #[test]
+    fn chain(rt: HostRuntime) -> Result<(), Fail> {
+        let matrix = chain_matrix(rt.alloc(), 200)?;
+        let order = chain_order(rt.alloc(), 200)?;
+        let parents = chain_parents(rt.alloc(), 200)?;
+        let factor = scalar(rt.alloc(), &matrix, &order, &parents, 1 << 10)?;
+        assert_eq!(rt; factor.get(0, 0), 137_422_175_231);
+        assert_eq!(rt; factor.get(12, 0), 0);
         Ok(())
     }
 }
