@@ -272,8 +272,8 @@ mod tests {
         Ok(parents)
     }
 
-    // 2^52 (2^22 - 2^10) lies between the squares of 137,422,175,231 and of the next number, by Python. Two nodes apart
-    // nothing is coupled.
+    // 2^52 (2^22 - 2^10) lies between the squares of 137,422,175,231 and of the next number, and that root goes into
+    // -2^72 nearest -34,363,933,440 times, by Python. Two nodes apart nothing is coupled.
     #[test]
     fn chain(rt: HostRuntime) -> Result<(), Fail> {
         let matrix = chain_matrix(rt.alloc(), 200)?;
@@ -281,6 +281,7 @@ mod tests {
         let parents = chain_parents(rt.alloc(), 200)?;
         let factor = scalar(rt.alloc(), &matrix, &order, &parents, 1 << 10)?;
         assert_eq!(rt; factor.get(0, 0), 137_422_175_231);
+        assert_eq!(rt; factor.get(6, 0), -34_363_933_440);
         assert_eq!(rt; factor.get(12, 0), 0);
         Ok(())
     }
