@@ -3,6 +3,7 @@ pub mod DefinitenessLaw
 pub mod EnclosureLaw
 pub mod RadiusLaw
 pub mod RoundingLaw
+pub mod BoundsLemmas
 pub mod RowSumLemmas
 pub mod ColumnLemmas
 pub mod RowListLemmas

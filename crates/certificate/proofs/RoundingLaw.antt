@@ -75,7 +75,7 @@ root_enough lambda size kappa t ratio root radius lambda_up size_up root_up unit
     (omega (arith, int_sums, second, third, left, middle, right))
 
 -- a quotient of what isn't negative, rounded up, isn't negative
-ceiling_not_negative : (n d : ℤ) → pos 0 <ℤ d → pos 0 ≤ℤ n → pos 0 ≤ℤ ceil_of n d
+pub ceiling_not_negative : (n d : ℤ) → pos 0 <ℤ d → pos 0 ≤ℤ n → pos 0 ≤ℤ ceil_of n d
 ceiling_not_negative n d d_up n_up =
     le_of_mul d (pos 0) (ceil_of n d) d_up (omega (arith, int_sums, (ceil_of-is n d d_up).at_least, zero-mul d, n_up))
 

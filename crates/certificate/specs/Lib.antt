@@ -1,6 +1,8 @@
 pub mod QuadraticForm
 pub mod Definiteness
 pub mod Enclosure
+pub mod Bounds
+pub mod Widening
 pub mod RowSums
 pub mod RowLists
 pub mod Places

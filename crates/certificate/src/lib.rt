@@ -6,14 +6,19 @@ ghost use Rattle.certificate.specs.Definiteness.{PassedTestIsProof};
 ghost use Rattle.certificate.specs.Enclosure.{StiffnessMatrixExists, EquilibriaAreNear, NearIsEnclosed, SizesGiveLength, RoundedRadiiAreEnough};
 
 mod blocks;
+mod bounds;
 mod check;
+mod fault;
 mod margin;
 mod places;
+mod radii;
 mod row_lists;
 mod row_sums;
 mod space;
 
+pub use bounds::{Enclosure, enclose};
 pub use check::{Verdict, check_definite};
+pub use fault::EncloseFault;
 pub use space::CheckSpace;
 
 /// The law of the verified Cholesky test, for every interval matrix, factor and shift.

@@ -11,7 +11,7 @@ use Rattle.member_set.specs.declared.members.Member.{Member}
 use Rattle.member_set.specs.declared.members.Law.{Law}
 use Rattle.member_set.specs.declared.members.Law.TheVariants.{Linear}
 use Rattle.member_set.specs.declared.members.Built.{Built}
-use Rattle.member_set.specs.Members.{nothing, shape_at, start_of, member_of, law_of, load_of, row_count}
+use Rattle.member_set.specs.Members.{nothing, shape_at, start_of, member_of, law_of, load_of, force_of, row_count}
 
 -- n / q
 abbrev pub fraction : ℤ → ℤ → Fraction
@@ -102,6 +102,10 @@ force_fraction q force = fraction force (pos (2 ^ 92) *ℤ ((q *ℤ q) *ℤ q))
 
 abbrev pub pull_fraction : ℤ → ℤ → Fraction
 pull_fraction q pull = fraction pull (pos (2 ^ 148) *ℤ (((q *ℤ q) *ℤ q) *ℤ q))
+
+-- each member's force at displacements U is within its interval
+abbrev pub HoldForces : Realisation → Vector → List Ends → Type 0
+HoldForces r u forces = (k : ℕ) → k < r.members → Within (force_of forces k) (force_fraction r.denominator (force_in r u k))
 
 -- what is left of a row's load: 0 in an equilibrium
 abbrev pub exact_residual : Realisation → Vector → ℕ → Fraction

@@ -4,7 +4,7 @@ ghost use Rattle.flex_interval.specs.Fraction.{Within};
 ghost use Rattle.flex_interval.specs.Operations.{and_then, sub_of};
 ghost use Rattle.member_set.specs.declared.members.Law.{Law};
 ghost use Rattle.member_set.specs.Members.{IsBuilt, FitsBuilt, IsModerate, shape_at, row_count, members_at, force_of};
-ghost use Rattle.member_set.specs.Realisation.{ExactMember, IsMemberWithin, Realisation, IsRealisation, displaced, exact_reach, exact_force, force_in, force_fraction, pull_fraction, exact_residual, fraction};
+ghost use Rattle.member_set.specs.Realisation.{Vector, ExactMember, IsMemberWithin, Realisation, IsRealisation, HoldForces, displaced, exact_reach, exact_force, force_in, force_fraction, pull_fraction, exact_residual, fraction};
 ghost use Rattle.member_set.specs.Interval.{limited_force, AreForces, member_force_of, pull_of, residual_with, residual_of};
 
 use crate::forces::{law_force, reach};
@@ -104,6 +104,8 @@ pub fn member_forces(b: &Built, laws: &[Law], u: &[i128], forces: &mut [Iv]) -> 
     requires moderate { IsModerate u.now }
     requires one_force_each { length forces.old ≡ length b.now.members }
     ensures forces { OnOk result (AreForces b.now laws.now u.now forces.new) }
+    ensures within { OnOk result ((loads : List Ends) (r : Realisation) → IsRealisation b.now laws.now loads r →
+        HoldForces r (displaced r.denominator u.now) forces.new) }
     ensures fault { IfErr result (λ e. (loads : List Ends) → (row : ℕ) × (row < row_count b.now) × IsErr (residual_of b.now laws.now loads u.now row)) }
 {
     for k in 0..laws.len() {
@@ -120,6 +122,8 @@ pub fn residual_from(b: &Built, forces: &[Iv], loads: &[Iv], row: u32) -> Result
     requires row_in_range { row < row_count b.now }
     ensures value { result ≡ residual_with b.now loads.now (λ k. Ok (force_of forces.now k)) row }
     ensures at_displacements { (laws : List Law) (u : List ℤ) → AreForces b.now laws u forces.now → result ≡ residual_of b.now laws loads.now u row }
+    ensures within { IfOk result (λ e. (laws : List Law) (r : Realisation) (u : Vector) → IsRealisation b.now laws loads.now r →
+        HoldForces r u forces.now → Within e (exact_residual r u row)) }
 {
     let mut rest = loads[row as usize];
     for &k in members_at(b, row) {

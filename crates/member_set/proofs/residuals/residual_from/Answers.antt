@@ -1,17 +1,27 @@
-use Rattle.std.proofs.Common.{◌≡◌, slice_index, Ok, ap, arith, sym, ◌∙◌}
+use Rattle.std.proofs.Common.{◌≡◌, List, ℕ, ◌/◌, ◌<◌, length, slice_index, get_or, Ok, ap, arith, sym, refl, ◌∙◌, pos, ◌-ℤ◌, ℤ, subst, add-one}
 use Rattle.std.proofs.lemmas.Result.{err_from_is_err_and}
 use Rattle.std.proofs.lemmas.List.{get_or_read_under}
-use Rattle.member_set.specs.Members.{nothing, force_of, load_of}
-use Rattle.member_set.proofs.Touching.{ok_of, residual-next, residual-fault, residual-whole, residual_from-forces}
+use Rattle.int_laws.proofs.Sums.{int_sums}
+use Rattle.flex_interval.specs.Fraction.{Within}
+use Rattle.member_set.specs.Members.{nothing, no_member, force_of, load_of, member_of, members_at, shape_at}
+use Rattle.member_set.specs.Realisation.{force_in, exact_load, fraction, force_fraction, pull_fraction}
+use Rattle.member_set.proofs.Fractions.{load_within, pull_taken}
+use Rattle.member_set.proofs.Rows.{nothing_is_zero}
+use Rattle.member_set.proofs.Touching.{ok_of, residual-next, residual-fault, residual-whole, residual_from-forces, resistance_by_node}
 use Rattle.member_set.proofs.residuals.residual_from.Goals as goal
 use Rattle.member_set.proofs.residuals.residual_from.Goals.{In-loop-k}
 
 pub loop-k-init : goal.loop-k-init
 loop-k-init c =
+    let load_is = sym (get_or_read_under c.args.loads.now c.args.row _ c.index-loads-row.result nothing c.index-loads-row.is (omega arith) (sym c.requires.one_load_each)) in
     record {
       items = c.members_at-k-items.ensures.numbers;
       inside = c.members_at-k-items.ensures.in_range;
-      value = ap ok_of (sym (get_or_read_under c.args.loads.now c.args.row _ c.index-loads-row.result nothing c.index-loads-row.is (omega arith) (sym c.requires.one_load_each)));
+      value = ap ok_of load_is;
+      within = λ laws r u real hold.
+          let here : Within c.index-loads-row.result (fraction (r.load c.args.row) r.denominator) = rw (← load_is) (real.load_within c.args.row (rw real.all_rows c.requires.row_in_range)) in
+          let none : exact_load r c.args.row ≡ exact_load r c.args.row -ℤ pos 0 = omega (arith, int_sums) in
+          subst (λ (z : ℤ). Within c.index-loads-row.result (pull_fraction r.denominator z)) none (load_within c.index-loads-row.result r.denominator (r.load c.args.row) real.positive here);
     }
 
 pub returns-in_err-rest-clause-value : goal.returns-in_err-rest-clause-value
@@ -41,6 +51,15 @@ loop-k-preserved c =
           residual-next c.args.b.now (load_of c.args.loads.now c.args.row) (λ k. Ok (force_of c.args.forces.now k)) c.args.row c.loop-k.k-index c.members_at-k-items.result.now
           c.index-as_slice-k.result (Ok c.index-forces-k.result) c.loop-k.rest _ c.members_at-k-items.ensures.numbers inside (rw (← c.as_slice.ensures) c.index-as_slice-k.is)
           (ap ok_of force_is) c.loop-k.invariant.value c.in_ok-rest.ensures.value;
+      within = λ laws r u real hold.
+          let listed : c.index-as_slice-k.result ≡ get_or c.args.b.now.members k c.index-as_slice-k.result = rw (← c.as_slice.ensures) c.index-as_slice-k.is in
+          let member_is = get_or_read_under c.args.b.now.members k _ c.index-as_slice-k.result no_member listed inside refl in
+          let k_inside : k < r.members = rw real.all_members inside in
+          let shape : Within (shape_at c.index-as_slice-k.result c.args.row) (fraction ((r.member k).shape c.args.row) r.denominator) =
+          rw member_is ((real.member_within k k_inside).shape_within c.args.row) in
+          let force : Within c.index-forces-k.result (force_fraction r.denominator (force_in r u k)) = rw force_is (hold k k_inside) in
+          let step = c.in_ok-rest.ensures.within r.denominator _ _ _ real.positive shape force (c.loop-k.invariant.within laws r u real hold) in
+          rw (add-one c.loop-k.k-index) (pull_taken c.in_ok-rest.rest r.denominator (exact_load r c.args.row) _ _ _ refl step);
     }
 
 pub returns-clause-value : goal.returns-clause-value
@@ -55,3 +74,11 @@ returns-in_err-rest-clause-at_displacements c = λ laws u are.
 pub returns-clause-at_displacements : goal.returns-clause-at_displacements
 returns-clause-at_displacements c = λ laws u are.
     returns-clause-value c ∙ residual_from-forces c.args.b.now c.requires.built laws c.args.loads.now u c.args.forces.now c.args.row c.requires.row_in_range are
+
+pub returns-clause-within : goal.returns-clause-within
+returns-clause-within c = λ laws r u real hold.
+    let done : c.loop-k.k-index ≡ length (members_at c.args.b.now (c.args.row / 6)) = omega (arith, ap (λ (xs : List ℕ). length xs) c.members_at-k-items.ensures.numbers) in
+    let none : (k : ℕ) → k < length c.args.b.now.members → shape_at (member_of c.args.b.now k) c.args.row ≡ nothing → (r.member k).shape c.args.row ≡ pos 0 =
+    λ k inside off. nothing_is_zero _ r.denominator (rw off at ((real.member_within k (rw real.all_members inside)).shape_within c.args.row)) in
+    let sum = resistance_by_node c.args.b.now c.requires.built c.args.row (λ k. (r.member k).shape c.args.row) (force_in r u) (omega arith) none in
+    rw (real.all_members, ← sum, ← done, ← c.members_at-k-items.ensures.numbers) (c.loop-k.invariant.within laws r u real hold)

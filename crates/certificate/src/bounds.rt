@@ -1,0 +1,153 @@
+ghost use Rattle.std.specs.Prelude.{◌≡◌, ℕ, ◌^◌, ◌<◌, ◌≤◌, [], List, length, slice_index_or, unsigned_abs, ℤ, pos, ◌≤ℤ◌, ◌<ℤ◌, IfOk, OnOk, OnErr, Err};
+ghost use Rattle.flex_interval.specs.Ends.{Ends};
+ghost use Rattle.member_set.specs.Members.{IsBuilt, FitsBuilt, IsModerate, row_count, member_of, force_of, nothing};
+ghost use Rattle.member_set.specs.Realisation.{Realisation, IsRealisation, IsEquilibrium};
+ghost use Rattle.member_set.specs.Interval.{AreForces, residual_of};
+ghost use Rattle.certificate.specs.QuadraticForm.{Vector};
+ghost use Rattle.certificate.specs.Enclosure.{IsResidualLength, AreForcesWithin, widened, alone, force_radius_of};
+ghost use Rattle.certificate.specs.Bounds.{AreStiff, IsDefiniteRealisation, HasResiduals, length_of, sum_of_squares, AreBounds, HasNoBounds, EnclosesEquilibrium};
+ghost use Rattle.certificate.specs.Widening.{AreLimited, AreWidened, AreAroundDisplacements, IsTooUnsteady, only};
+
+use crate::fault::EncloseFault;
+use crate::radii::{displacement_radius, force_radius, plus_square, root_of_squares, widened};
+use flex_interval::{Iv, Wide, point};
+use member_set::{Built, Law, Sequence, member_forces, residual_from};
+use std::alloc::Global;
+
+#[cfg(test)]
+mod tests;
+
+/// Bounds of every equilibrium of a structure under loads.
+#[derive(Drop)]
+pub struct Enclosure {
+    /// The displacement of each row, in units of 2^-56 m or rad.
+    pub u: Sequence<Iv>,
+    /// The force of each member, in units of 2^-40 N or N m.
+    pub force: Sequence<Iv>,
+    /// Whether each one-way member is closed.
+    pub closed: Sequence<bool>,
+}
+
+/// Bounds of every equilibrium, put around displacements `u`, one for each row in units of 2^-56 m or rad. They hold for every
+/// realisation whose stiffness is at least `lambda`, in units of 2^-20 N/m; how `u` was found is no premise. `Wide` where a
+/// residual or a force leaves its limit, where the squares of the residuals sum to 2^126 or more, or where a radius reaches
+/// 2^60. No law is one-way, so there are no states.
+pub fn enclose(
+    alloc: Global,
+    b: &Built,
+    laws: &[Law],
+    loads: &[Iv],
+    u: &[i128],
+    lambda: i128,
+) -> Result<Enclosure, EncloseFault>
+    requires built { IsBuilt b.now }
+    requires lists { FitsBuilt b.now laws.now loads.now }
+    requires linear { b.now.unilateral ≡ [] }
+    requires one_displacement_each { length u.now ≡ row_count b.now }
+    requires moderate { IsModerate u.now }
+    requires stiff { AreStiff b.now }
+    requires positive { pos 1 ≤ℤ lambda }
+    ensures bounds { IfOk result (λ e. AreBounds b.now laws.now loads.now u.now lambda e) }
+    ensures encloses { IfOk result (λ e. (r : Realisation) (exact : Vector) → IsRealisation b.now laws.now loads.now r →
+        IsDefiniteRealisation r lambda → IsEquilibrium r exact → EnclosesEquilibrium e r exact) }
+    ensures wide { result ≡ Err EncloseFault.Wide → HasNoBounds b.now laws.now loads.now u.now lambda }
+{
+    let mut displacements = vec![in alloc; point(0); u.len()]?;
+    let mut forces = vec![in alloc; point(0); laws.len()]?;
+    put_bounds(b, laws, loads, u, lambda, &mut displacements, &mut forces)?;
+    Ok(Enclosure {
+        u: Sequence::new(displacements),
+        force: Sequence::new(forces),
+        closed: Sequence::new(Vec::new(alloc)),
+    })
+}
+
+/// Puts the bounds in place of what the two lists hold.
+fn put_bounds(
+    b: &Built,
+    laws: &[Law],
+    loads: &[Iv],
+    u: &[i128],
+    lambda: i128,
+    displacements: &mut [Iv],
+    forces: &mut [Iv],
+) -> Result<(), Wide>
+    requires built { IsBuilt b.now }
+    requires lists { FitsBuilt b.now laws.now loads.now }
+    requires one_displacement_each { length u.now ≡ row_count b.now }
+    requires moderate { IsModerate u.now }
+    requires stiff { AreStiff b.now }
+    requires positive { pos 1 ≤ℤ lambda }
+    requires one_bound_each { length displacements.old ≡ row_count b.now }
+    requires one_force_each { length forces.old ≡ length b.now.members }
+    ensures bounds { OnOk result (AreBounds b.now laws.now loads.now u.now lambda (only displacements.new forces.new)) }
+    ensures encloses { OnOk result ((r : Realisation) (exact : Vector) → IsRealisation b.now laws.now loads.now r →
+        IsDefiniteRealisation r lambda → IsEquilibrium r exact → EnclosesEquilibrium (only displacements.new forces.new) r exact) }
+    ensures wide { OnErr result (HasNoBounds b.now laws.now loads.now u.now lambda) }
+{
+    let size = residual_length(b, laws, loads, u, forces)?;
+    widen_displacements(u, displacement_radius(lambda, size)?, displacements);
+    widen_forces(b, lambda, size, forces)
+}
+
+/// The length of what displacements `u` leave of the loads, in units of 2^-40 N or N m, and the forces there.
+fn residual_length(
+    b: &Built,
+    laws: &[Law],
+    loads: &[Iv],
+    u: &[i128],
+    forces: &mut [Iv],
+) -> Result<i128, Wide>
+    requires built { IsBuilt b.now }
+    requires lists { FitsBuilt b.now laws.now loads.now }
+    requires one_displacement_each { length u.now ≡ row_count b.now }
+    requires moderate { IsModerate u.now }
+    requires one_force_each { length forces.old ≡ length b.now.members }
+    ensures forces { OnOk result (AreForces b.now laws.now u.now forces.new) }
+    ensures forces_within { OnOk result ((r : Realisation) → IsRealisation b.now laws.now loads.now r → AreForcesWithin r u.now forces.new) }
+    ensures residuals { OnOk result (HasResiduals b.now laws.now loads.now u.now) }
+    ensures short { OnOk result (sum_of_squares b.now laws.now loads.now u.now <ℤ pos (2 ^ 126)) }
+    ensures value { IfOk result (λ size. size ≡ length_of b.now laws.now loads.now u.now) }
+    ensures not_negative { IfOk result (λ size. pos 0 ≤ℤ size) }
+    ensures bounded { IfOk result (λ size. size ≤ℤ pos (2 ^ 63)) }
+    ensures is_length { IfOk result (λ size. (r : Realisation) → IsRealisation b.now laws.now loads.now r → IsResidualLength r u.now size) }
+    ensures wide { OnErr result ((lambda : ℤ) → HasNoBounds b.now laws.now loads.now u.now lambda) }
+{
+    member_forces(b, laws, u, forces)?;
+    let mut sum = 0;
+    for row in 0..loads.len() {
+        sum = plus_square(sum, residual_from(b, forces, loads, row as u32)?)?;
+    }
+    Ok(root_of_squares(sum))
+}
+
+/// Puts an interval around each displacement.
+fn widen_displacements(u: &[i128], radius: i128, displacements: &mut [Iv])
+    requires moderate { IsModerate u.now }
+    requires one_each { length displacements.old ≡ length u.now }
+    requires not_negative { pos 0 ≤ℤ radius }
+    requires small { radius <ℤ pos (2 ^ 60) }
+    ensures { AreAroundDisplacements u.now radius displacements.new }
+{
+    for row in 0..u.len() {
+        displacements[row] = widened(point(u[row]), radius);
+    }
+}
+
+/// Widens each member's force by its radius; `Wide` where a radius reaches 2^60.
+fn widen_forces(b: &Built, lambda: i128, size: i128, forces: &mut [Iv]) -> Result<(), Wide>
+    requires stiff { AreStiff b.now }
+    requires positive { pos 1 ≤ℤ lambda }
+    requires not_negative { pos 0 ≤ℤ size }
+    requires bounded { size ≤ℤ pos (2 ^ 63) }
+    requires one_force_each { length forces.old ≡ length b.now.members }
+    requires limited { AreLimited forces.old }
+    ensures widened { OnOk result (AreWidened b.now lambda size forces.old forces.new) }
+    ensures unsteady { OnErr result (IsTooUnsteady b.now lambda size) }
+{
+    for k in 0..forces.len() {
+        let radius = force_radius(lambda, size, b.members.as_slice()[k].kappa)?;
+        forces[k] = widened(forces[k], radius);
+    }
+    Ok(())
+}
