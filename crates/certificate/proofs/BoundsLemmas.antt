@@ -1,9 +1,14 @@
 -- Why the bounds hold: they are the given displacements and forces, each wider by a radius that is enough.
-use Rattle.std.proofs.Common.{◌≡◌, ℕ, ◌<◌, ◌≤◌, ◌^◌, refl, sym, ◌∙◌, ap, subst, arith, List, length, get_or, Result, Ok, Err, ℤ, pos, ◌+ℤ◌, ◌*ℤ◌, ◌≤ℤ◌, ◌<ℤ◌, unsigned_abs}
+use Rattle.std.proofs.Common.{◌≡◌, ℕ, suc, ◌+◌, ◌<◌, ◌≤◌, ◌^◌, add-one, refl, sym, ◌∙◌, ap, subst, arith, List, length, get_or, slice_set, get_or-set_same, Result, Ok, Err, ℤ, pos, ◌+ℤ◌, ◌*ℤ◌, ◌≤ℤ◌, ◌<ℤ◌, unsigned_abs}
 use Rattle.std.specs.Prelude.{IsOk}
 use Rattle.std.proofs.lemmas.Bool.Decides.{nat_tests}
+use Rattle.std.proofs.lemmas.List.{get_or_read_under}
+use Rattle.int_laws.specs.Sums.{sum_below}
 use Rattle.int_laws.proofs.Sums.{int_sums}
-use Rattle.int_laws.proofs.Products.{le_of_mul}
+use Rattle.int_laws.proofs.Products.{le_of_mul, le_mul, one-mul, mul_comm, square_nonnegative}
+use Rattle.int_laws.proofs.SumLaws.{sum_below-le_more}
+use Rattle.flex_num.specs.Division.{IsCeiling}
+use Rattle.flex_num.proofs.DivisionLemmas.{ceiling_least}
 use Rattle.flex_interval.specs.Ends.{Ends}
 use Rattle.flex_interval.specs.Fraction.{Within}
 use Rattle.flex_interval.specs.Operations.{and_then}
@@ -15,7 +20,7 @@ use Rattle.member_set.specs.Members.{nothing, member_of, law_of, force_of, row_c
 use Rattle.member_set.specs.Realisation.{Realisation, IsRealisation, IsEquilibrium, fraction, force_fraction, force_in}
 use Rattle.member_set.specs.Interval.{Outcome, limited_force, law_force_of, member_force_of, reach_of, forces_of, AreForces}
 use Rattle.certificate.specs.QuadraticForm.{Vector}
-use Rattle.certificate.specs.Enclosure.{NoNegativeStiffness, IsResidualLength, AreForcesWithin, widened, alone, displacement_radius_of, force_radius_of}
+use Rattle.certificate.specs.Enclosure.{NoNegativeStiffness, IsResidualLength, AreForcesWithin, greater_size, widened, alone, displacement_radius_of, force_radius_of}
 use Rattle.certificate.specs.Bounds.{IsStiff, AreStiff, IsDefiniteRealisation, found, EnclosesEquilibrium}
 use Rattle.certificate.specs.Widening.{only, IsLimited, AreLimited, AreAroundDisplacements, AreWidened}
 use Rattle.certificate.proofs.EnclosureLaw.{matrix_exists, equilibria_near}
@@ -51,18 +56,53 @@ found_is o e is = ap found is
 pub found_ok : (o : Outcome) (e : Ends) → o ≡ Ok e → IsOk o
 found_ok o e is = subst (λ (x : Outcome). IsOk x) (sym is) refl
 
+-- ---- the sum of squares, row by row
+
+-- the square of an interval's greater size
+abbrev pub square_of : Ends → ℤ
+square_of e = greater_size e *ℤ greater_size e
+
+pub sum_more : (n s t : ℕ) (e : ℕ → Ends) (here : Ends) → e n ≡ here → pos s ≡ sum_below n (λ row. square_of (e row)) →
+    pos t ≡ pos s +ℤ square_of here → pos t ≡ sum_below (n + 1) (λ row. square_of (e row))
+sum_more n s t e here is before now =
+    rw (add-one n)
+    (now ∙ ap (λ (z : ℤ). z +ℤ square_of here) before ∙ ap (λ (x : Ends). sum_below n (λ row. square_of (e row)) +ℤ square_of x) (sym is))
+
+pub sum_too_long : (n m s : ℕ) (e : ℕ → Ends) (here : Ends) → n < m → e n ≡ here → pos s ≡ sum_below n (λ row. square_of (e row)) →
+    pos (2 ^ 126) ≤ℤ (pos s +ℤ square_of here) → pos (2 ^ 126) ≤ℤ sum_below m (λ row. square_of (e row))
+sum_too_long n m s e here inside is before long =
+    let all = sum_below-le_more (suc n) m (λ row. square_of (e row)) (omega arith) (λ i _. square_nonnegative (greater_size (e i))) in
+    let own = ap square_of is in
+    omega (arith, int_sums, all, own, before, long)
+
+-- ---- a force, widened
+pub force_wider : (k n : ℕ) (old now : List Ends) (f w : Ends) (radius full : ℤ) → length now ≡ n → k < n →
+    f ≡ get_or now k f → force_of now k ≡ force_of old k → radius ≡ full → w ≡ widened f radius → force_of (slice_set now k w) k ≡ widened (force_of old k) full
+force_wider k n old now f w radius full one_each inside force_is kept radius_is wider =
+    let force = get_or_read_under now k n f nothing force_is inside (sym one_each) in
+    get_or-set_same now k w nothing (omega (arith, one_each))
+    ∙ wider
+    ∙ ap (λ (e : Ends). widened e radius) (force ∙ kept)
+    ∙ ap (λ (x : ℤ). widened (force_of old k) x) radius_is
+
+-- ---- roundings
+pub ceiling_bounded : (n d q limit : ℤ) → pos 1 ≤ℤ d → pos 0 ≤ℤ limit → n ≤ℤ limit → IsCeiling n d q → q ≤ℤ limit
+ceiling_bounded n d q limit one up below is =
+    let more = le_mul limit up one in
+    ceiling_least limit (omega (arith, int_sums)) is (omega (arith, int_sums, more, one-mul limit, mul_comm d limit))
+
 -- ---- the law
 
 -- an interval that holds a number has its ends in order
 ordered : (e : Ends) (n q : ℤ) → Within e (fraction n q) → e.lo ≤ℤ e.hi
 ordered e n q within = le_of_mul q e.lo e.hi within.defined (omega (arith, int_sums, within.at_least, within.at_most))
 
-pub bounds_enclose : (b : Built) (laws : List Law) (loads : List Ends) (u : List ℤ) (lambda size : ℤ) (old displacements forces : List Ends) (r : Realisation) (exact : Vector) →
-    AreStiff b → pos 1 ≤ℤ lambda → pos 0 ≤ℤ size → length u ≡ row_count b →
-    AreAroundDisplacements u (displacement_radius_of lambda size) displacements → AreWidened b lambda size old forces →
+pub bounds_enclose : (b : Built) (laws : List Law) (loads : List Ends) (u : List ℤ) (lambda size radius : ℤ) (old displacements forces : List Ends) (r : Realisation) (exact : Vector) →
+    AreStiff b → pos 1 ≤ℤ lambda → pos 0 ≤ℤ size → length u ≡ row_count b → radius ≡ displacement_radius_of lambda size →
+    AreAroundDisplacements u radius displacements → AreWidened b lambda size old forces →
     IsRealisation b laws loads r → IsResidualLength r u size → AreForcesWithin r u old → IsDefiniteRealisation r lambda → IsEquilibrium r exact →
     EnclosesEquilibrium (only displacements forces) r exact
-bounds_enclose b laws loads u lambda size old displacements forces r exact stiff one size_up one_each around wider real long within definite balanced =
+bounds_enclose b laws loads u lambda size radius old displacements forces r exact stiff one size_up one_each radius_is around wider real long within definite balanced =
     let inside_b = λ (k : ℕ) (inside : k < r.members). subst (λ (n : ℕ). k < n) real.all_members inside in
     let up : NoNegativeStiffness b = λ k inside. omega (arith, int_sums, (stiff k inside).at_least) in
     let matrix = matrix_exists b laws loads r real in
@@ -75,7 +115,8 @@ bounds_enclose b laws loads u lambda size old displacements forces r exact stiff
     up real one near size_up long radii within in
     record {
       displacement = λ row inside.
-          subst (λ (e : Ends). Within e (fraction (exact row) r.denominator)) (sym (around.around row (omega (arith, one_each, real.all_rows)))) (enclosed.displacement row inside);
+          let wide = around.around row (omega (arith, one_each, real.all_rows)) ∙ ap (λ (x : ℤ). widened (alone (get_or u row (pos 0))) x) radius_is in
+          subst (λ (e : Ends). Within e (fraction (exact row) r.denominator)) (sym wide) (enclosed.displacement row inside);
       force = λ k inside.
           subst (λ (e : Ends). Within e (force_fraction r.denominator (force_in r exact k))) (sym (wider.wider k (inside_b k inside))) (enclosed.force k inside);
     }

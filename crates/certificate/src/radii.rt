@@ -107,7 +107,19 @@ pub fn displacement_radius(lambda: i128, size: i128) -> Result<i128, Wide>
     ensures small { IfOk result (λ x. x <ℤ pos (2 ^ 60)) }
     ensures wide { OnErr result (pos (2 ^ 60) ≤ℤ displacement_radius_of lambda size) }
 {
-    limited(flex_num::ceil_div(product(size, LENGTH_SCALE), lambda))
+    limited(quotient_up(product(size, LENGTH_SCALE), lambda))
+}
+
+/// A quotient rounded up, of a number from 0 to 2^126.
+fn quotient_up(n: i128, d: i128) -> i128
+    requires not_negative { pos 0 ≤ℤ n }
+    requires bounded { n ≤ℤ pos (2 ^ 126) }
+    requires positive { pos 1 ≤ℤ d }
+    ensures value { result ≡ ceil_of n d }
+    ensures not_negative { pos 0 ≤ℤ result }
+    ensures bounded { result ≤ℤ pos (2 ^ 126) }
+{
+    flex_num::ceil_div(n, d)
 }
 
 /// The root of the ratio of a stiffness to `lambda`, in units of 2^-20, each step rounded up.
@@ -118,7 +130,19 @@ fn root_of_ratio(lambda: i128, kappa: Iv) -> i128
     ensures not_negative { pos 0 ≤ℤ result }
     ensures bounded { result ≤ℤ pos (2 ^ 63) }
 {
-    flex_num::isqrt_up(flex_num::ceil_div(product(kappa.hi, RATIO_SCALE), lambda))
+    flex_num::isqrt_up(quotient_up(product(kappa.hi, RATIO_SCALE), lambda))
+}
+
+/// A length times the root of a ratio, rounded up.
+fn times_root(size: i128, root: i128) -> i128
+    requires size_not_negative { pos 0 ≤ℤ size }
+    requires size_bounded { size ≤ℤ pos (2 ^ 63) }
+    requires root_not_negative { pos 0 ≤ℤ root }
+    requires root_bounded { root ≤ℤ pos (2 ^ 63) }
+    ensures value { result ≡ ceil_of (size *ℤ root) (pos (2 ^ 20)) }
+    ensures not_negative { pos 0 ≤ℤ result }
+{
+    quotient_up(product(size, root), ROOT_SCALE)
 }
 
 /// The radius of the force of a member of stiffness `kappa`, likewise; `Wide` where it reaches 2^60 units of 2^-40 N or N m.
@@ -132,8 +156,7 @@ pub fn force_radius(lambda: i128, size: i128, kappa: Iv) -> Result<i128, Wide>
     ensures small { IfOk result (λ x. x <ℤ pos (2 ^ 60)) }
     ensures wide { OnErr result (pos (2 ^ 60) ≤ℤ force_radius_of lambda size kappa.hi) }
 {
-    let radius = product(size, root_of_ratio(lambda, kappa));
-    limited(flex_num::ceil_div(radius, ROOT_SCALE))
+    limited(times_root(size, root_of_ratio(lambda, kappa)))
 }
 
 /// An interval wider by a radius on both sides.

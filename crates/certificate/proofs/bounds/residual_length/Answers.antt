@@ -1,0 +1,79 @@
+use Rattle.std.proofs.Common.{rules, ◌≡◌, ℕ, ◌<◌, ◌⊎◌, inl, inr, length, sym, refl, subst, ◌∙◌, arith, FitsSigned, to_z-of_z, ℤ, pos, ◌*ℤ◌, ◌≤ℤ◌, Ok}
+use Rattle.std.specs.Prelude.{IsOk, IsErr}
+use Rattle.std.specs.Int.{w128}
+use Rattle.std.proofs.lemmas.Result.{err_from_is_err_and}
+use Rattle.int_laws.specs.Sums.{sum_below}
+use Rattle.flex_interval.specs.Ends.{Ends}
+use Rattle.flex_interval.specs.Fraction.{Within}
+use Rattle.member_set.specs.Members.{row_count}
+use Rattle.member_set.specs.Realisation.{displaced, exact_residual}
+use Rattle.member_set.specs.Interval.{Outcome, residual_of}
+use Rattle.certificate.specs.Bounds.{residual_at, HasNoBounds, no_residual, long}
+use Rattle.certificate.proofs.RoundingLaw.{sizes_give_length}
+use Rattle.certificate.proofs.BoundsLemmas.{found_is, found_ok, square_of, sum_more, sum_too_long}
+use Rattle.certificate.proofs.bounds.residual_length.Goals as goal
+
+pub returns-in_err-member_forces-clause-wide : goal.returns-in_err-member_forces-clause-wide
+returns-in_err-member_forces-clause-wide c =
+    let p = err_from_is_err_and c.from_residual.result c.from_residual.ensures.1 in
+    let broken = c.in_err-member_forces.ensures.fault c.args.loads.now in
+    rw p.1 (λ lambda. no_residual broken.0 broken.1 broken.2)
+
+pub returns-in_err-residual_from-clause-wide : goal.returns-in_err-residual_from-clause-wide
+returns-in_err-residual_from-clause-wide c =
+    let p = err_from_is_err_and c.from_residual-in_err-residual_from.result c.from_residual-in_err-residual_from.ensures.1 in
+    let at = c.in_err-residual_from.ensures.at_displacements c.args.laws.now c.args.u.now c.in_ok-member_forces.ensures.forces in
+    let inside : c.loop-row.row < row_count c.args.b.now = omega (arith, c.requires.lists.one_load_each) in
+    rw p.1 (λ lambda. no_residual c.loop-row.row inside (subst (λ (o : Outcome). IsErr o) at refl))
+
+pub returns-in_err-sum-clause-wide : goal.returns-in_err-sum-clause-wide
+returns-in_err-sum-clause-wide c =
+    let p = err_from_is_err_and c.from_residual-in_err-sum.result c.from_residual-in_err-sum.ensures.1 in
+    let e = c.in_ok-residual_from.field-0 in
+    let at = c.in_ok-residual_from.ensures.at_displacements c.args.laws.now c.args.u.now c.in_ok-member_forces.ensures.forces in
+    let inside : c.loop-row.row < row_count c.args.b.now = omega (arith, c.requires.lists.one_load_each) in
+    let here = found_is (residual_of c.args.b.now c.args.laws.now c.args.loads.now c.args.u.now c.loop-row.row) e (sym at) in
+    let beyond = sum_too_long c.loop-row.row (row_count c.args.b.now) c.loop-row.sum (residual_at c.args.b.now c.args.laws.now c.args.loads.now c.args.u.now) e
+    inside here c.loop-row.invariant.sum c.in_err-sum.ensures.long in
+    rw p.1 (λ lambda. long beyond)
+
+pub loop-row-preserved : goal.loop-row-preserved
+loop-row-preserved c =
+    let k = c.loop-row.row in
+    let e = c.in_ok-residual_from.field-0 in
+    let residual = residual_of c.args.b.now c.args.laws.now c.args.loads.now c.args.u.now in
+    let at = c.in_ok-residual_from.ensures.at_displacements c.args.laws.now c.args.u.now c.in_ok-member_forces.ensures.forces in
+    let here = found_is (residual_of c.args.b.now c.args.laws.now c.args.loads.now c.args.u.now k) e (sym at) in
+    record {
+      short = c.in_ok-sum.ensures.short;
+      sum = sum_more k c.loop-row.sum c.in_ok-sum.sum (residual_at c.args.b.now c.args.laws.now c.args.loads.now c.args.u.now) e here c.loop-row.invariant.sum c.in_ok-sum.ensures.value;
+      residuals = λ j below.
+          let side : (j < k) ⊎ (j ≡ k) = search arith in
+          elim side [
+            | inl less ↦ c.loop-row.invariant.residuals j less
+            | inr same ↦ subst (λ (i : ℕ). IsOk (residual i)) (sym same) (found_ok (residual k) e (sym at))
+          ];
+      within = λ r real j below.
+          let holds = λ (i : ℕ) (x : Ends). Within x (exact_residual r (displaced r.denominator c.args.u.now) i) in
+          let side : (j < k) ⊎ (j ≡ k) = search arith in
+          elim side [
+            | inl less ↦ c.loop-row.invariant.within r real j less
+            | inr same ↦
+                let own : holds k e = c.in_ok-residual_from.ensures.within c.args.laws.now r (displaced r.denominator c.args.u.now) real (c.in_ok-member_forces.ensures.within c.args.loads.now r real) in
+                subst (λ (i : ℕ). holds i (residual_at c.args.b.now c.args.laws.now c.args.loads.now c.args.u.now i)) (sym same) (subst (holds k) (sym here) own)
+          ];
+    }
+
+pub returns-clause-forces_within : goal.returns-clause-forces_within
+returns-clause-forces_within c = λ r real. c.in_ok-member_forces.ensures.within c.args.loads.now r real
+
+pub returns-clause-is_length : goal.returns-clause-is_length
+returns-clause-is_length c = λ r real.
+    let size = c.root_of_squares.result in
+    let fits : FitsSigned w128 c.root_of_squares.result = search rules in
+    let residual = residual_at c.args.b.now c.args.laws.now c.args.loads.now c.args.u.now in
+    let done : c.loop-row.row ≡ r.rows = omega (arith, c.requires.lists.one_load_each, real.all_rows) in
+    let sum = subst (λ (n : ℕ). pos c.loop-row.sum ≡ sum_below n (λ row. square_of (residual row))) done c.loop-row.invariant.sum in
+    let enough = subst (λ (z : ℤ). z ≤ℤ (size *ℤ size)) sum c.root_of_squares.ensures.enough in
+    rw (to_z-of_z fits)
+    (sizes_give_length r c.args.u.now residual size (λ row inside. c.loop-row.invariant.within r real row (omega (arith, done, inside))) enough)

@@ -1,0 +1,39 @@
+use Rattle.std.proofs.Common.{rules, ◌≡◌, ℕ, ◌<◌, ◌⊎◌, inl, inr, length, sym, refl, subst, ◌∙◌, arith, get_or, get_or-set_other, FitsSigned, to_z-of_z, pos, ◌^◌, ◌<ℤ◌, ap}
+use Rattle.std.specs.Int.{w128}
+use Rattle.std.proofs.Math.ListN.{length-set}
+use Rattle.std.proofs.lemmas.List.{get_or_read_under}
+use Rattle.member_set.specs.declared.members.Member.{Member}
+use Rattle.member_set.specs.Members.{nothing, no_member, member_of, force_of}
+use Rattle.certificate.specs.Enclosure.{force_radius_of, widened}
+use Rattle.certificate.proofs.BoundsLemmas.{force_wider}
+use Rattle.certificate.proofs.bounds.widen_forces.Goals as goal
+
+pub loop-k-preserved : goal.loop-k-preserved
+loop-k-preserved c =
+    let k = c.loop-k.k in
+    let inside : k < length c.args.b.now.members = omega (arith, c.loop-k.invariant.one_each) in
+    let listed : c.index-as_slice-k.result ≡ get_or c.args.b.now.members k c.index-as_slice-k.result = rw (← c.as_slice.ensures) c.index-as_slice-k.is in
+    let own = get_or_read_under c.args.b.now.members k _ c.index-as_slice-k.result no_member listed inside refl in
+    let at_slice : get_or c.as_slice.result.now k c.index-as_slice-k.result ≡ member_of c.args.b.now k = sym c.index-as_slice-k.is ∙ own in
+    let value = rw at_slice at c.in_ok-radius.ensures.value in
+    let fits : FitsSigned w128 c.in_ok-radius.radius = search rules in
+    let wider = rw (to_z-of_z fits) at c.widened.ensures in
+    let here = force_wider k (length c.args.b.now.members) c.args.forces.now c.loop-k.forces c.index-forces-k.result c.widened.result c.in_ok-radius.radius _
+    c.loop-k.invariant.one_each inside c.index-forces-k.is (c.loop-k.invariant.rest k (omega arith)) value wider in
+    let small = rw value at c.in_ok-radius.ensures.small in
+    record {
+      one_each = length-set c.loop-k.forces k c.widened.result ∙ c.loop-k.invariant.one_each;
+      wider = λ j below.
+          let side : (j < k) ⊎ (j ≡ k) = search arith in
+          elim side [
+            | inl less ↦ get_or-set_other c.loop-k.forces k j c.widened.result nothing (omega arith) ∙ c.loop-k.invariant.wider j less
+            | inr same ↦ rw same here
+          ];
+      rest = λ j above. get_or-set_other c.loop-k.forces k j c.widened.result nothing (omega arith) ∙ c.loop-k.invariant.rest j (omega arith);
+      steady = λ j below.
+          let side : (j < k) ⊎ (j ≡ k) = search arith in
+          elim side [
+            | inl less ↦ c.loop-k.invariant.steady j less
+            | inr same ↦ rw same small
+          ];
+    }
