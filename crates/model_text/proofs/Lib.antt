@@ -1,2 +1,8 @@
+mod Fronts
 mod LineLemmas
+mod PlainWords
+mod RoundTrip
 mod WordLemmas
+mod WrittenLines
+mod WrittenRecords
+mod WrittenWords

@@ -4,4 +4,5 @@ pub mod Fields
 pub mod Grammar
 pub mod Lines
 pub mod Records
+pub mod RoundTrip
 pub mod Words

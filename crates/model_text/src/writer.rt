@@ -1,8 +1,10 @@
 //! The canonical text of a model.
-ghost use Rattle.std.specs.Prelude.{◌≡◌, [], ◌∷◌, ◌++◌, map, codes, IfOk, OnOk};
+ghost use Rattle.std.specs.Prelude.{◌≡◌, ◌≤◌, [], ◌∷◌, ◌++◌, map, length, codes, Ok, IfOk, OnOk};
 ghost use Rattle.std.specs.Fmt.{signed_decimal};
 ghost use Rattle.model_types.specs.declared.ids.Space.TheVariants as space_of;
 ghost use Rattle.model_text.specs.Canonical as text_of;
+ghost use Rattle.model_text.specs.Grammar.{parsed};
+ghost use Rattle.model_text.specs.RoundTrip.{AreCasesAtRest};
 ghost use Rattle.text_words.specs.Fields.{line};
 
 use itoa::Buffer;
@@ -15,9 +17,19 @@ use text_words::push_line;
 
 /// The canonical text: the header, then the records by kind, each kind in text order, with single spaces and no comment. A default
 /// stays written as `-`.
-#[tactic(auto, unfolding(crate::specs::Canonical::canonical))]
+///
+/// [`read`](crate::read) makes the same model of it, if it has at most 4,194,304 bytes and all numbers of each case are 0: other cases
+/// aren't read yet.
 pub fn echo(alloc: Global, model: &Model) -> Result<Vec<u8>, NoMemory>
-    ensures { IfOk result (λ text. text.items ≡ text_of.canonical model.now) }
+    ensures canonical { IfOk result (λ text. text.items ≡ text_of.canonical model.now) }
+    ensures reads_back { IfOk result (λ text. AreCasesAtRest model.now → length text.items ≤ 4194304 → parsed text.items ≡ Ok model.now) }
+{
+    all_lines(alloc, model)
+}
+
+#[tactic(auto, unfolding(crate::specs::Canonical::canonical))]
+fn all_lines(alloc: Global, model: &Model) -> Result<Vec<u8>, NoMemory>
+    ensures canonical { IfOk result (λ text. text.items ≡ text_of.canonical model.now) }
 {
     let mut out = Vec::new(alloc);
     push_line(&mut out, &[b"pipeflex", b"1"])?;

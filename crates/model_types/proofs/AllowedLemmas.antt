@@ -35,7 +35,7 @@ both : (a b : Bool) → a ≡ false → b ≡ false → (a || b) ≡ false
 both a b p q = ap (λ x. x || b) p ∙ q
 
 -- what holds of each element holds of the last
-All-last : {X : Type 0} (P : X → Type 0) (xs : List X) (x : X) → All P (xs ++ x ∷ []) → P x
+pub All-last : {X : Type 0} (P : X → Type 0) (xs : List X) (x : X) → All P (xs ++ x ∷ []) → P x
 All-last P xs x all = All-contains P (xs ++ x ∷ []) x all (Contains-push xs x)
 
 -- the last of distinct names isn't among the others

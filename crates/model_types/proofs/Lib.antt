@@ -1,4 +1,4 @@
-mod AllowedLemmas
+pub mod AllowedLemmas
 mod NameLists
 mod NumberingLemmas
 mod RefusalLemmas
