@@ -1,5 +1,5 @@
 -- A model's canonical text is read as the model.
-use Rattle.std.proofs.Common.{◌≡◌, ℕ, ◌+◌, ◌<◌, ◌≤◌, ◌==◌, Bool, true, false, not, List, [], ◌∷◌, ◌++◌, map, length, All, inl, inr, Result, Ok, Err, IfOk, codes, refl, sym, ap, subst, ◌∙◌, append_assoc, append-nil, arith}
+use Rattle.std.proofs.Common.{◌≡◌, ℕ, ◌+◌, ◌<◌, ◌≤◌, ◌==◌, true, false, not, List, [], ◌∷◌, ◌++◌, map, length, inl, inr, Result, Ok, Err, IfOk, codes, refl, sym, ap, subst, ◌∙◌, append_assoc, append-nil, arith}
 use Rattle.std.proofs.lemmas.Bool.{cond-false, ne_eqb, not_from_true}
 use Rattle.std.proofs.lemmas.List.Elements.{All-weaker}
 use Rattle.std.specs.List.{join_with_byte}
@@ -20,11 +20,11 @@ use Rattle.model_types.specs.declared.records.Record.TheVariants as record_of
 use Rattle.model_types.specs.Lists.{Lists, no_records}
 use Rattle.model_types.specs.Rules.{IsModel, KeepsRules}
 use Rattle.model_text.specs.Canonical.{canonical, lines_of, material_words, section_words, node_words, element_words, restraint_words, case_words, force_words}
-use Rattle.model_text.specs.Grammar.{Refusal, after_lines, parsed, whole}
-use Rattle.model_text.specs.Lines.{start, after_line, is_at_rest, is_loaded_case}
+use Rattle.model_text.specs.Grammar.{after_lines, parsed, whole}
+use Rattle.model_text.specs.Lines.{start, is_at_rest}
 use Rattle.model_text.specs.RoundTrip.{AreCasesAtRest, CanonicalReadsBack}
 use Rattle.model_text.specs.declared.reader.Reading.{Reading}
-use Rattle.model_text.proofs.Fronts.{IsFront, AreFronts, whole_front, no_front, KeepsRules-fronts}
+use Rattle.model_text.proofs.Fronts.{IsFront, whole_front, no_front, KeepsRules-fronts}
 use Rattle.model_text.proofs.LineLemmas.{after_lines-Ok, after_lines-nil, parsed-lines}
 use Rattle.model_text.proofs.PlainWords.{no_words, one_more, lines-line}
 use Rattle.model_text.proofs.WrittenLines.{Leads, Leads-on, Leads-kind, below}
@@ -219,9 +219,11 @@ module _ (m : Lists) (k : KeepsRules m) where
 
   Leads-header : (left : List ℕ) → Leads start (line header ++ left) (below no_records) left
   Leads-header left = record {
-    from = λ n.
-        (n + 1, ap (after_lines start n) (lines-line header (one_more _ _ (record { passes = refl }) (one_more _ _ (record { passes = refl }) no_words)) left)
-        ∙ after_lines-Ok start n (join_with_byte 32 header) (lines left) (below no_records) refl);
+    from = λ n. (
+      n + 1,
+      ap (after_lines start n) (lines-line header (one_more _ _ (record { passes = refl }) (one_more _ _ (record { passes = refl }) no_words)) left)
+          ∙ after_lines-Ok start n (join_with_byte 32 header) (lines left) (below no_records) refl,
+    );
   }
 
   Leads-all : AreCasesAtRest m → Leads start (canonical m) (below (forces_read m.forces)) []

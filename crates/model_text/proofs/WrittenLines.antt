@@ -1,5 +1,5 @@
 -- The lines of records are read one after the other.
-use Rattle.std.proofs.Common.{◌≡◌, ℕ, ◌+◌, ◌<◌, ◌==◌, Bool, true, false, List, [], ◌∷◌, ◌++◌, map, length, length-append, get_or, All, Ok, Err, refl, sym, ap, subst, ◌∙◌, append_assoc, append-nil, arith}
+use Rattle.std.proofs.Common.{◌≡◌, ℕ, ◌+◌, ◌==◌, true, false, List, [], ◌∷◌, ◌++◌, map, length, length-append, get_or, All, Ok, Err, refl, sym, ap, subst, ◌∙◌, append_assoc, append-nil, arith}
 use Rattle.std.proofs.lemmas.Bool.{cond-true, cond-false}
 use Rattle.std.proofs.lemmas.List.{get_or_at}
 use Rattle.std.specs.List.{list_all, join_with_byte}
@@ -9,7 +9,6 @@ use Rattle.model_types.specs.Lists.{Lists, added}
 use Rattle.model_types.specs.Rules.{KeepsRules}
 use Rattle.model_types.proofs.AllowedLemmas.{refusal-KeepsRules}
 use Rattle.model_text.specs.Canonical.{lines_of}
-use Rattle.model_text.specs.Fields.{◌>>=◌}
 use Rattle.model_text.specs.Grammar.{after_lines}
 use Rattle.model_text.specs.Lines.{after_line, after_words, is_loaded_case, judged, record_taken, taken}
 use Rattle.model_text.specs.Records.{record_of_words}

@@ -1,8 +1,7 @@
 -- The line of a record that keeps the rules is read as that record.
-use Rattle.std.proofs.Common.{◌≡◌, ◌≢◌, ℕ, ◌<◌, ◌==◌, Bool, true, false, List, [], ◌∷◌, ◌++◌, map, length, get_or, position, unwrap_or, ℤ, Option, Result, Ok, Err, All, AllPairs, nat_eq, codes, refl, sym, ap, ◌∙◌, arith}
-use Rattle.std.proofs.lemmas.Bool.{cond-false}
+use Rattle.std.proofs.Common.{◌≡◌, ◌≢◌, ℕ, ◌<◌, ◌==◌, false, List, [], ◌∷◌, map, length, get_or, position, unwrap_or, ℤ, Option, Result, Ok, All, AllPairs, nat_eq, codes, refl, ap, ◌∙◌, arith}
 use Rattle.std.proofs.lemmas.List.{length-map}
-use Rattle.std.proofs.lemmas.List.Elements.{All-nil, All-cons, All-map, All-weaker}
+use Rattle.std.proofs.lemmas.List.Elements.{All-map, All-weaker}
 use Rattle.std.specs.Cmp.Lexicographic.{pointwise}
 use Rattle.std.specs.Fmt.{signed_decimal}
 use Rattle.text_words.specs.Names.{IsName}
@@ -12,7 +11,6 @@ use Rattle.model_types.specs.declared.records.Node.{Node}
 use Rattle.model_types.specs.declared.records.Element.{Element}
 use Rattle.model_types.specs.declared.records.Shape.{Shape}
 use Rattle.model_types.specs.declared.records.Shape.TheVariants.{Straight}
-use Rattle.model_types.specs.declared.records.Restraint.{Restraint}
 use Rattle.model_types.specs.declared.records.RestraintKind.{RestraintKind}
 use Rattle.model_types.specs.declared.records.RestraintKind.TheVariants.{Anchor, Linear, Twist}
 use Rattle.model_types.specs.declared.records.Case.{Case}
@@ -22,10 +20,10 @@ use Rattle.model_types.specs.declared.records.Record.TheVariants as record_of
 use Rattle.model_types.specs.declared.ids.Space.{Space}
 use Rattle.model_types.specs.declared.ids.Space.TheVariants as space_of
 use Rattle.model_types.specs.Lists.{Lists, added, names_in}
-use Rattle.model_types.specs.Ranges.{MaterialInForm, SectionInForm, NodeInForm, CaseInForm, ForceInForm, KindInForm, IsDirection, IsStiffness, modulus, poisson_ratio, expansion, density, diameter, wall, wall_allowance, extra_weight, coordinate, stiffness, direction_part, acceleration, temperature_change, pressure, load}
+use Rattle.model_types.specs.Ranges.{MaterialInForm, SectionInForm, NodeInForm, CaseInForm, ForceInForm, KindInForm, IsDirection, IsStiffness, modulus, poisson_ratio, expansion, density, diameter, wall, wall_allowance, extra_weight, coordinate, direction_part, acceleration, temperature_change, pressure, load}
 use Rattle.model_types.specs.Rules.{KeepsRules, KeepsSection, KeepsElement, KeepsRestraint, KeepsForce}
 use Rattle.model_types.proofs.AllowedLemmas.{All-last}
-use Rattle.model_text.specs.Canonical.{name_of, stiffness_word, flag_word, material_words, section_words, node_words, element_words, kind_words, restraint_words, case_words, force_words}
+use Rattle.model_text.specs.Canonical.{name_of, stiffness_word, material_words, section_words, node_words, element_words, kind_words, restraint_words, case_words, force_words}
 use Rattle.model_text.specs.Fields.{name_at}
 use Rattle.model_text.specs.Records.{number_or_none, record_of_words, record_under, material_of, section_of, node_of, straight_of, restraint_of, anchor_kind, anchor_of, linear_kind, linear_of, twist_kind, twist_of, case_of, force_of}
 use Rattle.model_text.proofs.PlainWords.{IsPlain, ArePlain, no_words, one_more}
@@ -64,10 +62,10 @@ module _ (m : Lists) where
   unfolding record_under
   material_written r form = record {
     plain = one_more _ _ (record { passes = refl })
-    (one_more _ _ (plain_name r.name form.name)
-    (one_more _ _ (plain_number_in modulus r.e refl form.e)
-    (one_more _ _ (plain_number_in poisson_ratio r.nu refl form.nu)
-    (one_more _ _ (plain_number_in expansion r.alpha refl form.alpha) (one_more _ _ (plain_number_in density r.rho refl form.rho) no_words)))));
+        (one_more _ _ (plain_name r.name form.name)
+        (one_more _ _ (plain_number_in modulus r.e refl form.e)
+        (one_more _ _ (plain_number_in poisson_ratio r.nu refl form.nu)
+        (one_more _ _ (plain_number_in expansion r.alpha refl form.alpha) (one_more _ _ (plain_number_in density r.rho refl form.rho) no_words)))));
     some = refl;
     made = material_made r form;
   }
@@ -90,11 +88,11 @@ module _ (m : Lists) where
   unfolding record_under
   section_written r form material = record {
     plain = one_more _ _ (record { passes = refl })
-    (one_more _ _ (plain_name r.name form.name)
-    (one_more _ _ material.plain
-    (one_more _ _ (plain_number_in diameter r.d refl form.d)
-    (one_more _ _ (plain_number_in wall r.t refl form.t)
-    (one_more _ _ (plain_number_in wall_allowance r.allowance refl form.allowance) (one_more _ _ (plain_number_in extra_weight r.extra refl form.extra) no_words))))));
+        (one_more _ _ (plain_name r.name form.name)
+        (one_more _ _ material.plain
+        (one_more _ _ (plain_number_in diameter r.d refl form.d)
+        (one_more _ _ (plain_number_in wall r.t refl form.t)
+        (one_more _ _ (plain_number_in wall_allowance r.allowance refl form.allowance) (one_more _ _ (plain_number_in extra_weight r.extra refl form.extra) no_words))))));
     some = refl;
     made = section_made r form material;
   }
@@ -110,8 +108,8 @@ module _ (m : Lists) where
   unfolding record_under
   node_written r form = record {
     plain = one_more _ _ (record { passes = refl })
-    (one_more _ _ (plain_name r.name form.name)
-    (one_more _ _ (plain_number_in coordinate r.x refl form.x) (one_more _ _ (plain_number_in coordinate r.y refl form.y) (one_more _ _ (plain_number_in coordinate r.z refl form.z) no_words))));
+        (one_more _ _ (plain_name r.name form.name)
+        (one_more _ _ (plain_number_in coordinate r.x refl form.x) (one_more _ _ (plain_number_in coordinate r.y refl form.y) (one_more _ _ (plain_number_in coordinate r.z refl form.z) no_words))));
     some = refl;
     made = node_made r form;
   }
@@ -205,11 +203,11 @@ module _ (m : Lists) where
   unfolding record_under
   case_written r form = record {
     plain = one_more _ _ (record { passes = refl })
-    (one_more _ _ (plain_name r.name form.name)
-    (one_more _ _ (plain_number_in acceleration r.gx refl form.gx)
-    (one_more _ _ (plain_number_in acceleration r.gy refl form.gy)
-    (one_more _ _ (plain_number_in acceleration r.gz refl form.gz)
-    (one_more _ _ (plain_flag r.hangers) (one_more _ _ (plain_number_in temperature_change r.dt refl form.dt) (one_more _ _ (plain_number_in pressure r.p refl form.p) no_words)))))));
+        (one_more _ _ (plain_name r.name form.name)
+        (one_more _ _ (plain_number_in acceleration r.gx refl form.gx)
+        (one_more _ _ (plain_number_in acceleration r.gy refl form.gy)
+        (one_more _ _ (plain_number_in acceleration r.gz refl form.gz)
+        (one_more _ _ (plain_flag r.hangers) (one_more _ _ (plain_number_in temperature_change r.dt refl form.dt) (one_more _ _ (plain_number_in pressure r.p refl form.p) no_words)))))));
     some = refl;
     made = case_made r form;
   }
@@ -235,12 +233,12 @@ module _ (m : Lists) where
     unfolding record_under
     force_written = record {
       plain = one_more _ _ (record { passes = refl })
-      (one_more _ _ case.plain
-      (one_more _ _ node.plain
-      (one_more _ _ (plain_number_in load r.fx refl form.fx)
-      (one_more _ _ (plain_number_in load r.fy refl form.fy)
-      (one_more _ _ (plain_number_in load r.fz refl form.fz)
-      (one_more _ _ (plain_number_in load r.mx refl form.mx) (one_more _ _ (plain_number_in load r.my refl form.my) (one_more _ _ (plain_number_in load r.mz refl form.mz) no_words))))))));
+          (one_more _ _ case.plain
+          (one_more _ _ node.plain
+          (one_more _ _ (plain_number_in load r.fx refl form.fx)
+          (one_more _ _ (plain_number_in load r.fy refl form.fy)
+          (one_more _ _ (plain_number_in load r.fz refl form.fz)
+          (one_more _ _ (plain_number_in load r.mx refl form.mx) (one_more _ _ (plain_number_in load r.my refl form.my) (one_more _ _ (plain_number_in load r.mz refl form.mz) no_words))))))));
       some = refl;
       made = force_made;
     }

@@ -1,5 +1,5 @@
 -- The words of a canonical text are plain, and are read as what they were written for.
-use Rattle.std.proofs.Common.{◌≡◌, ◌≢◌, ℕ, zero, suc, ◌+◌, ◌^◌, ◌<◌, ◌≤◌, ◌==◌, ◌&&◌, nat_lt, nat_le, not, Bool, true, false, cond, List, [], ◌∷◌, length, get_or, ℤ, pos, negsuc, neg_ℤ, ◌≤ℤ◌, int_le, unsigned_abs, codes, position, unwrap_or, Option, Some, None, Result, Ok, Err, All, AllPairs, nat_eq, int_eq, refl, sym, ap, ◌∙◌, subst, arith}
+use Rattle.std.proofs.Common.{◌≡◌, ◌≢◌, ℕ, suc, ◌+◌, ◌^◌, ◌<◌, ◌≤◌, ◌&&◌, nat_lt, nat_le, not, Bool, true, false, List, [], ◌∷◌, length, get_or, ℤ, pos, negsuc, neg_ℤ, ◌≤ℤ◌, int_le, unsigned_abs, codes, position, unwrap_or, Option, Some, None, Result, Ok, Err, AllPairs, nat_eq, int_eq, refl, sym, ap, ◌∙◌, arith}
 use Rattle.std.proofs.lemmas.Bool.{and_parts, and_from, cond-true, cond-false, lt-ltb, ltb-true, false_from_ne_true}
 use Rattle.std.proofs.lemmas.Bool.Decides.{nat_tests, Decides-int_eq}
 use Rattle.std.proofs.lemmas.Fmt.{decimal_nonempty, digits_decimal, decimal_digit}
@@ -18,7 +18,6 @@ use Rattle.text_words.proofs.NumberLemmas.{own, number_of-IsNumber}
 use Rattle.model_types.specs.Ranges.{Range, IsIn, IsStiffness, IsDirection, stiffness, direction_part, from_to}
 use Rattle.model_text.specs.Canonical.{stiffness_word, flag_word}
 use Rattle.model_text.specs.Fields.{◌>>=◌, name_at, is_in, in_range, number_in, stiffness_at, is_default, flag_at, is_zero, direction_of}
-use Rattle.model_text.specs.declared.fields.Direction.{Direction}
 use Rattle.model_text.proofs.PlainWords.{is_plain_byte, IsPlain}
 
 -- a step that isn't refused hands on its value
