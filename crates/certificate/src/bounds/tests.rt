@@ -74,7 +74,8 @@ fn are_ends(intervals: &[Iv], ends: &[(i128, i128)]) -> bool {
         return false;
     }
     for k in 0..ends.len() {
-        if (intervals[k].lo, intervals[k].hi) != ends[k] {
+        let e = intervals[k];
+        if (e.lo, e.hi) != ends[k] {
             return false;
         }
     }
