@@ -1,0 +1,10 @@
+//! The loads of a case, row by row.
+#![tactic(auto)]
+
+mod fault;
+mod forces;
+#[cfg(test)]
+mod tests;
+
+pub use fault::LoadFault;
+pub use forces::loads;

@@ -1,0 +1,3 @@
+pub mod TouchingLemmas
+pub mod MemberLemmas
+pub mod BuildingLemmas

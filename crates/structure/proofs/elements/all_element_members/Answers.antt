@@ -1,0 +1,25 @@
+use Rattle.std.proofs.Common.{◌≡◌, ◌<◌, ◌++◌, length, length-append, arith, ap, ◌∙◌}
+use Rattle.std.proofs.lemmas.List.Elements.{All-append}
+use Rattle.structure.specs.Sound.{IsSound}
+use Rattle.structure.proofs.MemberLemmas.{element_members-next, element_members-wide, members-read, members-sound, members-count}
+use Rattle.structure.proofs.elements.all_element_members.Goals as goal
+
+pub returns-in-Err-clause-wide : goal.returns-in-Err-clause-wide
+returns-in-Err-clause-wide c = λ id is.
+    let number : c.loop-number.number ≡ id.0 = cc in
+    let here = members-read c.args.model.now c.elements-elements.result.now c.loop-number.number c.index-elements-number.result c.element_members.result c.elements-elements.ensures.records c.loop-number-test.true c.index-elements-number.is c.element_members.ensures.value in
+    let inside : c.loop-number.number < length c.args.model.now.elements = rw (← c.elements-elements.ensures.records) c.loop-number-test.true in
+    rw (← number) (element_members-wide c.args.model.now c.loop-number.number c.loop-number.members.items c.in-Err.field-0 c.loop-number.invariant.value (here ∙ c.in-Err.is) (length c.args.model.now.elements) inside)
+
+pub loop-number-preserved : goal.loop-number-preserved
+loop-number-preserved c =
+    let here = members-read c.args.model.now c.elements-elements.result.now c.loop-number.number c.index-elements-number.result c.element_members.result c.elements-elements.ensures.records c.loop-number-test.true c.index-elements-number.is c.element_members.ensures.value in
+    let inside : c.loop-number.number < length c.args.model.now.elements = rw (← c.elements-elements.ensures.records) c.loop-number-test.true in
+    let items : c.extend_from_slice.new.self.items ≡ c.loop-number.members.items ++ c.in-Ok.more = c.in_ok-extend_from_slice-in-Ok.ensures.items in
+    let sound = members-sound c.args.model.now c.elements-elements.ensures.model c.loop-number.number inside c.in-Ok.more (here ∙ c.in-Ok.is) in
+    let count : length c.in-Ok.more ≡ 8 = members-count c.args.model.now c.loop-number.number c.in-Ok.more (here ∙ c.in-Ok.is) in
+    record {
+      value = rw items (element_members-next c.args.model.now c.loop-number.number c.loop-number.members.items c.in-Ok.more c.loop-number.invariant.value (here ∙ c.in-Ok.is));
+      sound = rw items (All-append (IsSound (length c.args.model.now.nodes)) c.loop-number.members.items c.in-Ok.more c.loop-number.invariant.sound sound);
+      few = omega (arith, ap length items, length-append c.loop-number.members.items c.in-Ok.more, count);
+    }

@@ -1,0 +1,57 @@
+-- The members of a model's elements.
+use Rattle.std.specs.Prelude.{ℕ, [], pos, List, Result}
+use Rattle.std.specs.List.{slice_index_or}
+use Rattle.flex_interval.specs.declared.fault.Wide.{Wide}
+use Rattle.member_set.specs.declared.members.Member.{Member}
+use Rattle.model_types.specs.Lists.{Lists}
+use Rattle.model_types.specs.declared.records.Element.{Element}
+use Rattle.model_types.specs.declared.records.Shape.TheVariants.{Straight}
+use Rattle.model_types.specs.declared.records.Material.{Material}
+use Rattle.model_types.specs.declared.records.Node.{Node}
+use Rattle.model_types.specs.declared.records.Section.{Section}
+use Rattle.pipe_element.specs.ExactStraight.{Tube}
+use Rattle.pipe_element.specs.Span.{Span}
+use Rattle.pipe_element.specs.Straight.{straight_of, tube_of as tube_of_section}
+use Rattle.pipe_element.specs.Vectors.{way_of, parts_of}
+
+-- what stands for a record that isn't there
+abbrev pub no_node : Node
+no_node = record { name = []; x = pos 0; y = pos 0; z = pos 0 }
+
+abbrev pub no_section : Section
+no_section = record { name = []; material = record { 0 = 0 }; d = pos 0; t = pos 0; allowance = pos 0; extra = pos 0 }
+
+abbrev pub no_material : Material
+no_material = record { name = []; e = pos 0; nu = pos 0; alpha = pos 0; rho = pos 0 }
+
+abbrev pub no_element : Element
+no_element = record { name = []; from = record { 0 = 0 }; to = record { 0 = 0 }; section = record { 0 = 0 }; shape = Straight }
+
+-- the element of that number
+abbrev pub element_at : Lists → ℕ → Element
+element_at m n = slice_index_or m.elements n no_element
+
+-- the records that an element names
+abbrev pub from_of : Lists → Element → Node
+from_of m e = slice_index_or m.nodes e.from.0 no_node
+
+abbrev pub to_of : Lists → Element → Node
+to_of m e = slice_index_or m.nodes e.to.0 no_node
+
+abbrev pub section_of : Lists → Element → Section
+section_of m e = slice_index_or m.sections e.section.0 no_section
+
+abbrev pub material_of : Lists → Section → Material
+material_of m s = slice_index_or m.materials s.material.0 no_material
+
+-- an element's round tube
+abbrev pub tube_of : Lists → Element → Tube
+tube_of m e = tube_of_section (section_of m e) (material_of m (section_of m e))
+
+-- the way from its first node to its second
+abbrev pub span_of : Lists → Element → Span
+span_of m e = parts_of (way_of (from_of m e) (to_of m e))
+
+-- its members, unless they leave their limits
+abbrev pub members_of : Lists → Element → Result (List Member) Wide
+members_of m e = straight_of e (from_of m e) (to_of m e) (section_of m e) (material_of m (section_of m e))

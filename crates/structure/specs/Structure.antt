@@ -1,0 +1,44 @@
+-- The structure of a model: its members, element by element and then restraint by restraint.
+use Rattle.std.specs.Prelude.{◌≡◌, ℕ, zero, suc, ◌^◌, ◌<◌, List, [], ◌++◌, length, Result, Ok, Err, pos, ◌≤ℤ◌, ◌<ℤ◌}
+use Rattle.std.specs.List.{flat_map}
+use Rattle.flex_interval.specs.declared.fault.Wide.{Wide}
+use Rattle.member_set.specs.declared.members.Member.{Member}
+use Rattle.member_set.specs.declared.members.Built.{Built}
+use Rattle.member_set.specs.Members.{IsBuilt, member_of, node_count}
+use Rattle.model_types.specs.Lists.{Lists}
+use Rattle.structure.specs.Elements.{members_of, element_at}
+use Rattle.structure.specs.Anchors.{restraint_members}
+
+-- members, or the number of an element that leaves its limits
+abbrev pub Members : Type 0
+Members = Result (List Member) ℕ
+
+-- the members so far, with those of one more element
+abbrev pub with_element : ℕ → Result (List Member) Wide → List Member → Members
+with_element number (Ok members) before = Ok (before ++ members)
+with_element number (Err _) before = Err number
+
+-- the next step on members; the number of a wide element stays
+abbrev pub and_then : Members → (List Member → Members) → Members
+and_then (Ok members) next = next members
+and_then (Err number) next = Err number
+
+-- the members of the first n elements, or the number of the first of them that leaves its limits
+abbrev pub element_members : Lists → ℕ → Members
+element_members m zero = Ok []
+element_members m (suc n) = and_then (element_members m n) (with_element n (members_of m (element_at m n)))
+
+-- the members of a model: of its elements in order, then of its restraints in order
+unfoldable pub model_members : Lists → Members
+model_members m = and_then (element_members m (length m.elements)) (λ members. Ok (members ++ flat_map restraint_members m.restraints))
+
+-- the structure of a model, all of whose members are linear
+pub record IsStructureOf (m : Lists) (b : Built) : Type 0 where
+  pub members : model_members m ≡ Ok b.members
+  pub nodes : node_count b ≡ length m.nodes
+  pub built : IsBuilt b
+  pub linear : b.unilateral ≡ []
+
+-- each stiffness is at least 1 and below 2^61, in units of 2^-20 N/m
+abbrev pub IsStiff : Built → Type 0
+IsStiff b = (k : ℕ) → k < length b.members → (pos 1 ≤ℤ (member_of b k).kappa.lo) × ((member_of b k).kappa.hi <ℤ pos (2 ^ 61))

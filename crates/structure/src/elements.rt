@@ -1,0 +1,76 @@
+ghost use Rattle.std.specs.Prelude.{◌≡◌, ◌*◌, ◌<◌, ◌≤◌, length, All, IfOk, Ok, Err};
+ghost use Rattle.std.specs.List.{slice_index_or};
+ghost use Rattle.model_types.specs.Ranges.{NodeInForm, MaterialInForm};
+ghost use Rattle.model_types.specs.Rules.{KeepsElement};
+ghost use Rattle.section_data.specs.Tube.{IsTube};
+ghost use Rattle.structure.specs.Elements.{members_of, material_of, no_node, no_section};
+ghost use Rattle.structure.specs.Enclosure.{EnclosesElement};
+ghost use Rattle.structure.specs.Sound.{IsSound};
+ghost use Rattle.structure.specs.Structure.{element_members as all_of};
+
+use crate::fault::BuildFault;
+use flex_interval::Wide;
+use member_set::Member;
+use model_types::{Element, ElementId, Material, Model, Node, NodeId, Section, SectionId};
+use pipe_element::straight;
+use std::alloc::Global;
+
+/// The members of an element of a model: `Wide` where they leave their limits.
+pub fn element_members(model: &Model, element: &Element) -> Result<[Member; 8], Wide>
+    requires { KeepsElement model.now.nodes model.now.sections element.now }
+    ensures value { result ≡ members_of model.now element.now }
+    ensures encloses { EnclosesElement model.now element.now }
+{
+    let from = node(model, element.from);
+    let to = node(model, element.to);
+    let section = section(model, element.section);
+    let material = material(model, section);
+    straight(element, from, to, section, material)
+}
+
+fn node(model: &Model, id: NodeId) -> &Node
+    requires { id.0 < length model.now.nodes }
+    ensures value { result.now ≡ slice_index_or model.now.nodes id.0 no_node }
+    ensures form { NodeInForm result.now }
+{
+    let nodes = model.nodes();
+    &nodes[id.0 as usize]
+}
+
+fn section(model: &Model, id: SectionId) -> &Section
+    requires { id.0 < length model.now.sections }
+    ensures value { result.now ≡ slice_index_or model.now.sections id.0 no_section }
+    ensures tube { IsTube result.now }
+    ensures material { result.now.material.0 < length model.now.materials }
+{
+    let sections = model.sections();
+    &sections[id.0 as usize]
+}
+
+fn material<'a>(model: &'a Model, section: &Section) -> &'a Material
+    requires { section.now.material.0 < length model.now.materials }
+    ensures value { result.now ≡ material_of model.now section.now }
+    ensures form { MaterialInForm result.now }
+{
+    let materials = model.materials();
+    &materials[section.material.0 as usize]
+}
+
+
+/// The members of a model's elements, in order, or the first element that leaves its limits.
+pub fn all_element_members(alloc: Global, model: &Model) -> Result<Vec<Member>, BuildFault>
+    ensures value { IfOk result (λ members. all_of model.now (length model.now.elements) ≡ Ok members.items) }
+    ensures sound { IfOk result (λ members. All (IsSound (length model.now.nodes)) members.items) }
+    ensures few { IfOk result (λ members. length members.items ≤ 8 * length model.now.elements) }
+    ensures wide { (id : ElementId) → result ≡ Err (BuildFault.Wide id) → all_of model.now (length model.now.elements) ≡ Err id.0 }
+{
+    let mut members = Vec::new(alloc);
+    let elements = model.elements();
+    for number in 0..elements.len() {
+        match element_members(model, &elements[number]) {
+            Ok(more) => members.extend_from_slice(&more)?,
+            Err(Wide) => return Err(BuildFault::Wide(ElementId(number as u32))),
+        }
+    }
+    Ok(members)
+}
