@@ -1,5 +1,5 @@
 -- How great forces' parts and their sums are, so that no sum leaves the intervals' limit.
-use Rattle.std.proofs.Common.{◌≡◌, refl, ap, subst, ℕ, ◌+◌, ◌*◌, ◌^◌, ◌<◌, ◌≤◌, arith, sym, ◌∙◌, ℤ, pos, neg_ℤ, ◌+ℤ◌, ◌-ℤ◌, ◌*ℤ◌, ◌≤ℤ◌, ◌<ℤ◌, Ok, Err, unsigned_abs}
+use Rattle.std.proofs.Common.{◌≡◌, refl, ap, ℕ, ◌+◌, ◌^◌, ◌<◌, ◌≤◌, arith, sym, ◌∙◌, ℤ, pos, neg_ℤ, ◌+ℤ◌, ◌-ℤ◌, ◌*ℤ◌, ◌≤ℤ◌, ◌<ℤ◌, Ok, Err, unsigned_abs}
 use Rattle.std.specs.Prelude.{IsOk}
 use Rattle.std.specs.Int.{int_min}
 use Rattle.std.proofs.lemmas.Int.{ints, clamps}
@@ -9,7 +9,7 @@ use Rattle.int_laws.proofs.Products.{le_mul, le_of_mul, lt_of_mul}
 use Rattle.flex_num.specs.Division.{IsFloor, IsCeiling, floor_of, ceil_of}
 use Rattle.flex_num.proofs.DivisionLemmas.{floor_of-is, ceil_of-is}
 use Rattle.flex_interval.specs.Ends.{Ends}
-use Rattle.flex_interval.specs.Operations.{ends, small_of, product_of, multiple_of, ratio_of, add_of}
+use Rattle.flex_interval.specs.Operations.{ends, small_of, multiple_of, ratio_of, add_of}
 use Rattle.member_set.specs.Interval.{Outcome}
 use Rattle.member_set.specs.Members.{nothing}
 use Rattle.model_types.specs.Ranges.{IsIn, load}

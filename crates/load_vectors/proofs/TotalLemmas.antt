@@ -1,5 +1,5 @@
 -- How the sums of forces' parts grow by one force, row by row.
-use Rattle.std.proofs.Common.{◌≡◌, ◌≢◌, refl, ap, subst, ℕ, suc, ◌+◌, ◌*◌, ◌/◌, ◌%◌, ◌^◌, ◌<◌, ◌≤◌, ◌⊎◌, inl, inr, List, length, get_or, set, length-set, get_or-set_same, get_or-set_other, add-one, arith, sym, ◌∙◌, ℤ, pos, ◌+ℤ◌, ◌*ℤ◌, Ok, Err, IsErr, IsOk}
+use Rattle.std.proofs.Common.{◌≡◌, ◌≢◌, refl, ap, subst, ℕ, ◌+◌, ◌*◌, ◌/◌, ◌%◌, ◌^◌, ◌<◌, ◌≤◌, ◌⊎◌, inl, inr, List, length, get_or, set, length-set, get_or-set_same, get_or-set_other, add-one, arith, sym, ◌∙◌, ℤ, pos, ◌+ℤ◌, ◌*ℤ◌, Ok, Err}
 use Rattle.std.specs.Prelude.{Result}
 use Rattle.std.proofs.lemmas.Int.{ints}
 use Rattle.std.proofs.lemmas.Bool.Decides.{nat_tests}
@@ -10,8 +10,7 @@ use Rattle.flex_interval.specs.Ends.{Ends}
 use Rattle.flex_interval.specs.Fraction.{Within, plus, scaled, whole}
 use Rattle.flex_interval.specs.Operations.{and_then, add_of}
 use Rattle.member_set.specs.Members.{nothing, load_of}
-use Rattle.member_set.specs.Interval.{Outcome, in_turn, limited_force}
-use Rattle.member_set.specs.Realisation.{fraction}
+use Rattle.member_set.specs.Interval.{Outcome, limited_force}
 use Rattle.member_set.proofs.Fractions.{sum_within, within-moved}
 use Rattle.member_set.proofs.Turns.{in_turn-next}
 use Rattle.model_types.specs.Lists.{Lists}

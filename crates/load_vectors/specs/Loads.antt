@@ -1,5 +1,5 @@
 -- The loads of a case: for each row the sum of the forces on it. Loads are in units of 2^-40 N or N m.
-use Rattle.std.specs.Prelude.{◌≡◌, ℕ, ◌+◌, ◌*◌, ◌/◌, ◌%◌, ◌^◌, ◌<◌, ◌==◌, ◌&&◌, List, [], length, Ok, IsOk, IsErr, ℤ, pos, ◌+ℤ◌, ◌*ℤ◌, Bool, false, if◌then◌else◌}
+use Rattle.std.specs.Prelude.{◌≡◌, ℕ, ◌*◌, ◌/◌, ◌%◌, ◌^◌, ◌<◌, ◌==◌, ◌&&◌, List, [], length, Ok, IsOk, IsErr, ℤ, pos, ◌*ℤ◌, Bool, false, if◌then◌else◌}
 use Rattle.std.specs.List.{slice_index_or}
 use Rattle.int_laws.specs.Sums.{sum_below}
 use Rattle.flex_interval.specs.Ends.{Ends}

@@ -1,10 +1,10 @@
-ghost use Rattle.std.specs.Prelude.{◌≡◌, ◌<◌, ◌≤◌, ◌+◌, ◌*◌, ◌/◌, ◌^◌, ℕ, ℤ, ◌+ℤ◌, length, slice_index_or, IfOk, OnOk, Ok, Err, if◌then◌else◌};
+ghost use Rattle.std.specs.Prelude.{◌≡◌, ◌<◌, ◌≤◌, ◌+◌, ◌^◌, ℕ, ℤ, ◌+ℤ◌, length, IfOk, OnOk, Ok, Err, if◌then◌else◌};
 ghost use Rattle.flex_interval.specs.Fraction.{Within};
 ghost use Rattle.flex_interval.specs.Operations.{and_then, add_of};
 ghost use Rattle.member_set.specs.Interval.{limited_force};
 ghost use Rattle.member_set.specs.Members.{load_of};
 ghost use Rattle.model_types.specs.Ranges.{IsIn, load, ForceInForm};
-ghost use Rattle.load_vectors.specs.Loads.{AreLoads, EncloseLoads, HasForcesAlone, IsFirstWideLoad, case_at, no_force, part_of};
+ghost use Rattle.load_vectors.specs.Loads.{AreLoads, EncloseLoads, HasForcesAlone, IsFirstWideLoad, case_at, part_of};
 ghost use Rattle.load_vectors.specs.Totals.{AreTotals, IsFirstOver, IsOfForces, in_units, units_of};
 
 use crate::fault::LoadFault;

@@ -87,7 +87,11 @@ fn model(rt: &impl Abort, alloc: Global) -> Model {
     accept(rt, &mut draft, push(0, 1, 1_000_000, 0, 0));
     accept(rt, &mut draft, push(1, 1, -67_108_864_000, 0, 0));
     accept(rt, &mut draft, push(0, 1, 500_000, 1, 0));
-    accept(rt, &mut draft, turn(1, 0, 0, 67_108_863_999, 67_108_864_000));
+    accept(
+        rt,
+        &mut draft,
+        turn(1, 0, 0, 67_108_863_999, 67_108_864_000),
+    );
     accept(rt, &mut draft, push(0, 0, 0, 0, -1));
     accept(rt, &mut draft, turn(0, 1, 0, -2000, 0));
     draft.finish().expect(rt, "a model")

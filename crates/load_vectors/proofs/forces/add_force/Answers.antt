@@ -1,4 +1,4 @@
-use Rattle.std.proofs.Common.{◌≡◌, ◌<◌, ◌*◌, ◌+◌, List, get_or, length, refl, sym, ap, subst, arith, rules, FitsSigned, to_z-of_z, ℕ, ℤ}
+use Rattle.std.proofs.Common.{◌≡◌, ◌<◌, ◌*◌, ◌+◌, List, get_or, length, refl, ap, subst, arith, rules, FitsSigned, to_z-of_z, ℕ, ℤ}
 use Rattle.std.specs.Int.{w64}
 use Rattle.std.proofs.lemmas.List.{get_or_read_under}
 use Rattle.flex_interval.specs.Ends.{Ends}

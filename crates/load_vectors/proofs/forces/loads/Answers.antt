@@ -1,4 +1,4 @@
-use Rattle.std.proofs.Common.{◌≡◌, ℕ, List, length, subst, ap, arith, sym, ◌∙◌, Err}
+use Rattle.std.proofs.Common.{◌≡◌, ℕ, List, length, subst, ap, arith, sym, ◌∙◌}
 use Rattle.std.proofs.lemmas.Result.{err_from_is_err_and}
 use Rattle.model_types.specs.declared.records.Force.{Force}
 use Rattle.load_vectors.specs.declared.fault.LoadFault.TheVariants as faults

@@ -1,4 +1,4 @@
-use Rattle.std.proofs.Common.{◌≡◌, sym, ◌∙◌, to_z-of_z}
+use Rattle.std.proofs.Common.{sym, ◌∙◌, to_z-of_z}
 use Rattle.load_vectors.specs.Totals.{in_units}
 use Rattle.load_vectors.proofs.Sizes.{IsOk-sum, sum_size}
 use Rattle.load_vectors.proofs.TotalLemmas.{units_sum_within}

@@ -1,4 +1,4 @@
-use Rattle.std.proofs.Common.{◌≡◌, ◌<◌, ◌≤◌, ◌^◌, length, ℕ, Ok}
+use Rattle.std.proofs.Common.{◌≡◌, ◌<◌, ℕ, Ok}
 use Rattle.member_set.specs.Interval.{limited_force}
 use Rattle.member_set.specs.Members.{load_of}
 use Rattle.load_vectors.proofs.forces.test_limit.Given as goal
