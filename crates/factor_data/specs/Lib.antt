@@ -1,2 +1,3 @@
 pub mod Order
 pub mod Columns
+pub mod SmallNode
