@@ -1,5 +1,5 @@
 -- Why the bounds hold: they are the given displacements and forces, each wider by a radius that is enough.
-use Rattle.std.proofs.Common.{◌≡◌, ℕ, suc, ◌+◌, ◌<◌, ◌≤◌, ◌^◌, add-one, refl, sym, ◌∙◌, ap, subst, arith, List, length, get_or, slice_set, get_or-set_same, Result, Ok, Err, ℤ, pos, ◌+ℤ◌, ◌*ℤ◌, ◌≤ℤ◌, ◌<ℤ◌, unsigned_abs}
+use Rattle.std.proofs.Common.{◌≡◌, ℕ, suc, ◌+◌, ◌<◌, ◌^◌, add-one, refl, sym, ◌∙◌, ap, subst, arith, List, length, get_or, slice_set, get_or-set_same, Ok, Err, ℤ, pos, ◌+ℤ◌, ◌*ℤ◌, ◌≤ℤ◌}
 use Rattle.std.specs.Prelude.{IsOk}
 use Rattle.std.proofs.lemmas.Bool.Decides.{nat_tests}
 use Rattle.std.proofs.lemmas.List.{get_or_read_under}
@@ -12,16 +12,15 @@ use Rattle.flex_num.proofs.DivisionLemmas.{ceiling_least}
 use Rattle.flex_interval.specs.Ends.{Ends}
 use Rattle.flex_interval.specs.Fraction.{Within}
 use Rattle.flex_interval.specs.Operations.{and_then}
-use Rattle.flex_interval.specs.declared.fault.IvFault.{IvFault}
 use Rattle.member_set.specs.declared.members.Member.{Member}
 use Rattle.member_set.specs.declared.members.Law.{Law}
 use Rattle.member_set.specs.declared.members.Built.{Built}
 use Rattle.member_set.specs.Members.{nothing, member_of, law_of, force_of, row_count}
 use Rattle.member_set.specs.Realisation.{Realisation, IsRealisation, IsEquilibrium, fraction, force_fraction, force_in}
-use Rattle.member_set.specs.Interval.{Outcome, limited_force, law_force_of, member_force_of, reach_of, forces_of, AreForces}
+use Rattle.member_set.specs.Interval.{Outcome, limited_force, law_force_of, member_force_of, reach_of, AreForces}
 use Rattle.certificate.specs.QuadraticForm.{Vector}
 use Rattle.certificate.specs.Enclosure.{NoNegativeStiffness, IsResidualLength, AreForcesWithin, greater_size, widened, alone, displacement_radius_of, force_radius_of}
-use Rattle.certificate.specs.Bounds.{IsStiff, AreStiff, IsDefiniteRealisation, found, EnclosesEquilibrium}
+use Rattle.certificate.specs.Bounds.{AreStiff, IsDefiniteRealisation, found, EnclosesEquilibrium}
 use Rattle.certificate.specs.Widening.{only, IsLimited, AreLimited, AreAroundDisplacements, AreWidened}
 use Rattle.certificate.proofs.EnclosureLaw.{matrix_exists, equilibria_near}
 use Rattle.certificate.proofs.RadiusLaw.{near_enclosed}

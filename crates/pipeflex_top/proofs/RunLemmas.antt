@@ -1,15 +1,19 @@
 -- What a text is, of which only the bytes up to the one past the limit were read.
-use Rattle.std.proofs.Common.{◌≡◌, ◌≢◌, ℕ, ◌<◌, ◌≤◌, false, true, List, ◌++◌, Option, None, Some, IfSome, IfOk, Err, IsOk, IsErr, String, Global, arith, refl, sym, ap, subst, ◌∙◌, inl, inr, length, take, drop, take-append-drop, length-take, take_all, lt-ltb}
+use Rattle.std.proofs.Common.{◌≡◌, ◌≢◌, ℕ, ◌<◌, ◌≤◌, codes, List, [], ◌∷◌, ◌++◌, Option, None, Some, IfSome, IfOk, Ok, Err, String, Global, arith, refl, sym, ap, subst, ◌∙◌, inl, inr, length, take, drop, take-append-drop, length-take, take_all, lt-ltb}
 use Rattle.std.proofs.lemmas.Bool.{cases_lt}
 use Rattle.std.proofs.lemmas.List.{append_cancel_left}
+use Rattle.std.proofs.lemmas.Fmt.{decimal_injective}
+use Rattle.std.specs.Fmt.{decimal}
+use Rattle.std.specs.Prelude.{slice_index}
 use Rattle.std.specs.Io.KnownBytes.{Consumes}
 use Rattle.flex_io.specs.declared.outcome.Status.{Status}
 use Rattle.flex_io.specs.declared.outcome.Status.TheVariants.{Done, Uncertified, Refused, Usage, ReadFault, WriteFault, NoMemory}
-use Rattle.model_text.specs.Grammar.{longest_text, parsed}
+use Rattle.model_text.specs.Grammar.{Refusal, longest_text, parsed}
+use Rattle.model_types.specs.Lists.{Lists}
 use Rattle.pipeflex_top.specs.declared.commands.Command.{Command}
-use Rattle.pipeflex_top.specs.declared.commands.Command.TheVariants.{Members, Echo}
+use Rattle.pipeflex_top.specs.declared.commands.Command.TheVariants.{Members, Echo, Analyse}
 use Rattle.pipeflex_top.specs.Enclosure.{PrintsEnclosures}
-use Rattle.pipeflex_top.specs.Run.{Answers, Asks, Decides, HasForm, IsAnswer, ReadsText}
+use Rattle.pipeflex_top.specs.Run.{Answers, Ask, AskAnalysis, plain, stated, Asks, Decides, HasForm, IsAccepted, IsAnswer, IsOutput, IsRefusedFor, faulty, unbuilt, ReadsText, Takes, ending_of}
 
 -- the bytes that were taken are the text up to the byte past the limit, so what is left follows them
 pub ReadsText-taken : (left after : Option (List ℕ)) (bytes : List ℕ) → Consumes left after bytes → IfSome left (λ text. bytes ≡ take 4194305 text) → ReadsText left after
@@ -40,6 +44,15 @@ judged : {A : Type 0} (left : Option (List ℕ)) (same : List ℕ → A) (bytes 
 judged None same bytes is whole here = tt
 judged (Some text) same bytes is whole here = whole ∙ here
 
+-- a text that is judged as bytes that are refused is refused
+refused_as : (command : Command) (text bytes : List ℕ) (refusal : Refusal) → parsed text ≡ parsed bytes → IsRefusedFor command bytes refusal → IsRefusedFor command text refusal
+refused_as command text bytes refusal same (faulty r err) = faulty r (same ∙ err)
+refused_as command text bytes refusal same (unbuilt m ok other) = unbuilt m (same ∙ ok) other
+
+refused_whole : (command : Command) (left : Option (List ℕ)) (bytes : List ℕ) (refusal : Refusal) → IfSome left (λ text. parsed text ≡ parsed bytes) → IsRefusedFor command bytes refusal → IfSome left (λ text. IsRefusedFor command text refusal)
+refused_whole command None bytes refusal same refused = tt
+refused_whole command (Some text) bytes refusal same refused = refused_as command text bytes refusal same refused
+
 -- the answer to the bytes that were taken is the answer to the words and the source
 pub Answers-taken : (words : List (String Global)) (command : Command) (left after : Option (List ℕ)) (bytes output message : List ℕ) (status : Status)
     → Asks words command → Consumes left after bytes → IfSome left (λ text. bytes ≡ take 4194305 text) → length bytes ≤ 4194305
@@ -51,15 +64,23 @@ Answers-taken words command left after bytes output message Done asked taken who
   model = answer.model;
   text = judged left parsed bytes _ (parsed-whole left bytes whole) answer.text_is;
   written = answer.written;
-  enclosures = answer.enclosures;
   silent = answer.silent;
 }
-Answers-taken words command left after bytes output message Uncertified asked taken whole short answer = absurd answer
+Answers-taken words command left after bytes output message Uncertified asked taken whole short answer = record {
+  command = command;
+  asked = asked;
+  read = ReadsText-taken left after bytes taken whole;
+  model = answer.model;
+  text = judged left parsed bytes _ (parsed-whole left bytes whole) answer.text_is;
+  written = answer.written;
+  silent = answer.silent;
+}
 Answers-taken words command left after bytes output message Refused asked taken whole short answer = record {
-  form = (command, asked);
+  command = command;
+  asked = asked;
   read = ReadsText-taken left after bytes taken whole;
   refusal = answer.refusal;
-  text = judged left parsed bytes _ (parsed-whole left bytes whole) answer.text_is;
+  text = refused_whole command left bytes answer.refusal (parsed-whole left bytes whole) answer.refused;
   empty = answer.empty;
   line = answer.line;
 }
@@ -73,33 +94,77 @@ Answers-taken words command left after bytes output message NoMemory asked taken
   told = answer.1;
 }
 
--- where the words have a form and no fault comes, the text decides
-pub Decides-answer : (words : List (String Global)) (left after : Option (List ℕ)) (output message : List ℕ) (status : Status)
-    → Answers words left after output message status → HasForm words → status ≢ ReadFault → IfSome left (Decides status)
-Decides-answer words None after output message status answers form sound = tt
-Decides-answer words (Some text) after output message Done answers form sound = record {
-  accepted = λ ok. inl refl;
-  refused = λ err. let wrong : false ≡ true = subst IsErr answers.text err in absurd (cc wrong);
+-- a command's output is the answer to the text of the model
+pub IsAnswer-output : (command : Command) (text output message : List ℕ) (status : Status) (m : Lists)
+    → parsed text ≡ Ok m → message ≡ [] → IsOutput command m output status → IsAnswer command text output message status
+IsAnswer-output Members text output message status m ok silent written =
+    subst (IsAnswer Members text output message) (sym written.ends) (record { model = m; text_is = ok; written = subst (IsOutput Members m output) written.ends written; silent = silent })
+IsAnswer-output Echo text output message status m ok silent written =
+    subst (IsAnswer Echo text output message) (sym written.ends) (record { model = m; text_is = ok; written = subst (IsOutput Echo m output) written.ends written; silent = silent })
+IsAnswer-output (Analyse workers) text output message status m ok silent written =
+    subst (IsAnswer (Analyse workers) text output message) (sym written.ends) (record { model = m; text_is = ok; written = subst (IsOutput (Analyse workers) m output) written.ends written; silent = silent })
+
+-- the numbers of workers that the words ask for are the same
+one_count : (words : List (List ℕ)) (first second : ℕ) → AskAnalysis words first → AskAnalysis words second → first ≡ second
+one_count words first second (plain a four) (plain b also) = four ∙ sym also
+one_count words first second (plain a four) (stated b least most) = absurd (cc (a, b))
+one_count words first second (stated a least most) (plain b four) = absurd (cc (a, b))
+one_count words first second (stated a least most) (stated b low high) =
+    let same : decimal first ≡ decimal second = cc (a, b) in
+    decimal_injective first second (omega (arith, most)) (omega (arith, high)) same
+
+-- one word that asks for an analysis begins with an `a`
+first_letter : (words : List (List ℕ)) (word : List ℕ) (workers : ℕ) → words ≡ word ∷ [] → AskAnalysis words workers → slice_index word 0 ≡ 97
+first_letter words word workers alone (plain a four) =
+    let same : word ≡ codes "analyse" = cc (alone, a) in ap (λ w. slice_index w 0) same
+first_letter words word workers alone (stated a least most) = absurd (cc (alone, a))
+
+-- the words ask for one command
+pub one_command : (words : List (List ℕ)) (first second : Command) → Ask words first → Ask words second → first ≡ second
+one_command words Members Members a b = refl
+one_command words Members Echo a b = absurd (cc (a, b))
+one_command words Members (Analyse n) a b = let letter : 109 ≡ 97 = first_letter words (codes "members") n a b in absurd (omega (arith, letter))
+one_command words Echo Members a b = absurd (cc (a, b))
+one_command words Echo Echo a b = refl
+one_command words Echo (Analyse n) a b = let letter : 101 ≡ 97 = first_letter words (codes "echo") n a b in absurd (omega (arith, letter))
+one_command words (Analyse n) Members a b = let letter : 109 ≡ 97 = first_letter words (codes "members") n b a in absurd (omega (arith, letter))
+one_command words (Analyse n) Echo a b = let letter : 101 ≡ 97 = first_letter words (codes "echo") n b a in absurd (omega (arith, letter))
+one_command words (Analyse n) (Analyse k) a b = ap Analyse (one_count words n k a b)
+
+-- a text is that of one model
+one_model : (text : List ℕ) (first second : Lists) → parsed text ≡ Ok first → parsed text ≡ Ok second → first ≡ second
+one_model text first second a b = cc (a, b)
+
+-- a text that a command takes isn't refused for it
+not_both : (command : Command) (text : List ℕ) (m : Lists) (refusal : Refusal) → parsed text ≡ Ok m → Takes command m → IsRefusedFor command text refusal → ⊥
+not_both command text m refusal ok taken (faulty r err) = absurd (cc (ok, err))
+not_both command text m refusal ok taken (unbuilt other also untaken) = untaken (subst (Takes command) (one_model text m other ok also) taken)
+
+-- an output is written for a text that the command takes, and for no other
+Decides-output : (words : List (String Global)) (command : Command) (m : Lists) (text output : List ℕ) (status : Status)
+    → Asks words command → parsed text ≡ Ok m → IsOutput command m output status → Decides words status text
+Decides-output words command m text output status asked ok written = record {
+  accepted = λ other n asks is taken. inl (written.ends ∙ ap ending_of (one_command _ command other asked asks));
+  refused = λ other refusal asks refused. absurd (not_both command text m refusal ok written.taken (subst (λ c. IsRefusedFor c text refusal) (sym (one_command _ command other asked asks)) refused));
 }
-Decides-answer words (Some text) after output message Uncertified answers form sound = absurd answers
+
+-- where the words have a form and no fault comes, the words and the text decide
+pub Decides-answer : (words : List (String Global)) (left after : Option (List ℕ)) (output message : List ℕ) (status : Status)
+    → Answers words left after output message status → HasForm words → status ≢ ReadFault → IfSome left (Decides words status)
+Decides-answer words None after output message status answers form sound = tt
+Decides-answer words (Some text) after output message Done answers form sound = Decides-output words answers.command answers.model text output Done answers.asked answers.text answers.written
+Decides-answer words (Some text) after output message Uncertified answers form sound = Decides-output words answers.command answers.model text output Uncertified answers.asked answers.text answers.written
 Decides-answer words (Some text) after output message Refused answers form sound = record {
-  accepted = λ ok. let wrong : false ≡ true = subst IsOk answers.text ok in absurd (cc wrong);
-  refused = λ err. inl refl;
+  accepted = λ command m asks ok taken. absurd (not_both command text m answers.refusal ok taken (subst (λ c. IsRefusedFor c text answers.refusal) (one_command _ answers.command command answers.asked asks) answers.text));
+  refused = λ command refusal asks refused. inl refl;
 }
 Decides-answer words (Some text) after output message Usage answers form sound = absurd (answers.0 form)
 Decides-answer words (Some text) after output message ReadFault answers form sound = absurd (sound refl)
 Decides-answer words (Some text) after output message WriteFault answers form sound = absurd answers
 Decides-answer words (Some text) after output message NoMemory answers form sound = record {
-  accepted = λ ok. inr refl;
-  refused = λ err. inr refl;
+  accepted = λ command m asks ok taken. inr refl;
+  refused = λ command refusal asks refused. inr refl;
 }
-
--- the words ask for one command
-pub one_command : (words : List (String Global)) (first second : Command) → Asks words first → Asks words second → first ≡ second
-one_command words Members Members a b = refl
-one_command words Members Echo a b = absurd (cc (a, b))
-one_command words Echo Members a b = absurd (cc (a, b))
-one_command words Echo Echo a b = refl
 
 -- where the table was written, its pairs hold the exact stiffnesses
 pub enclosed-answer : (words : List (String Global)) (left after : Option (List ℕ)) (output message : List ℕ) (status : Status)
@@ -107,5 +172,5 @@ pub enclosed-answer : (words : List (String Global)) (left after : Option (List 
 enclosed-answer words None after output message status answers done members = tt
 enclosed-answer words (Some text) after output message status answers done members =
     let model = subst (Answers words (Some text) after output message) done answers in
-    let enclosures = model.enclosures (one_command words model.command Members model.asked members) in
-    subst (λ judged. IfOk judged PrintsEnclosures) (sym model.text) enclosures
+    let made = subst (λ command. IsOutput command model.model output Done) (one_command _ model.command Members model.asked members) model.written in
+    subst (λ judged. IfOk judged PrintsEnclosures) (sym model.text) made.made.1

@@ -1,18 +1,8 @@
 -- That the pairs of the member table hold the exact stiffnesses.
-use Rattle.std.specs.Prelude.{IfOk}
 use Rattle.std.specs.List.{All}
-use Rattle.angle_table.specs.Pi.{pi_ends}
-use Rattle.flex_interval.specs.Fraction.{Fraction, Within}
 use Rattle.model_types.specs.Lists.{Lists}
-use Rattle.model_types.specs.declared.records.Element.{Element}
-use Rattle.pipe_element.specs.Straight.{IsLengthWithin, EnclosesStraight}
-use Rattle.pipeflex_top.specs.Elements.{members_of, span_of, tube_of}
+use Rattle.structure.specs.Enclosure.{EnclosesElement}
 
--- where an element has pairs, each of them holds its member's exact stiffness, for every pi and every length within their enclosures
-abbrev pub EnclosesElement : Lists → Element → Type 0
-EnclosesElement m e =
-    IfOk (members_of m e) (λ members. (pi l : Fraction) → Within pi_ends pi → IsLengthWithin (span_of m e) l → EnclosesStraight members (tube_of m e) (span_of m e) pi l)
-
--- the same of each element of a model
+-- the members of each element of a model, whose stiffnesses are printed, hold its exact stiffnesses
 abbrev pub PrintsEnclosures : Lists → Type 0
 PrintsEnclosures m = All (EnclosesElement m) m.elements

@@ -1,5 +1,6 @@
-pub mod Elements
+pub mod Analysis
 pub mod Enclosure
 pub mod MemberTable
+pub mod OneStraight
 pub mod Refusal
 pub mod Run

@@ -7,7 +7,7 @@ use Rattle.flex_interval.specs.Ends.{Ends}
 use Rattle.member_set.specs.declared.members.Member.{Member}
 use Rattle.model_types.specs.Lists.{Lists}
 use Rattle.model_types.specs.declared.records.Element.{Element}
-use Rattle.pipeflex_top.specs.Elements.{members_of}
+use Rattle.structure.specs.Elements.{members_of}
 use Rattle.text_words.specs.Fields.{line}
 
 -- the words of the line of member J: its stiffness, in 2^-20 N/m

@@ -1,5 +1,6 @@
 -- What a run of the program does, by its words and the text that its source has left.
-use Rattle.std.specs.Prelude.{◌≡◌, ℕ, ◌⊎◌, List, [], ◌∷◌, ◌++◌, Option, Some, IfSome, Ok, Err, IsOk, IsErr, String, string_bytes, map, drop, codes}
+use Rattle.std.specs.Prelude.{◌≡◌, ℕ, ◌≤◌, ◌⊎◌, ⊤, List, [], ◌∷◌, ◌++◌, Option, Some, IfSome, Ok, Err, String, string_bytes, map, drop, codes}
+use Rattle.std.specs.Fmt.{decimal}
 use Rattle.std.specs.Global.{Global}
 use Rattle.flex_io.specs.declared.Status.{Status}
 use Rattle.flex_io.specs.declared.Status.TheVariants.{Done, Uncertified, Refused, Usage, ReadFault, WriteFault, NoMemory}
@@ -8,23 +9,31 @@ use Rattle.model_text.specs.Canonical.{canonical}
 use Rattle.model_text.specs.Grammar.{Refusal, parsed}
 use Rattle.model_types.specs.Lists.{Lists}
 use Rattle.pipeflex_top.specs.declared.commands.Command.{Command}
-use Rattle.pipeflex_top.specs.declared.commands.Command.TheVariants.{Members, Echo}
+use Rattle.pipeflex_top.specs.declared.commands.Command.TheVariants.{Members, Echo, Analyse}
 use Rattle.pipeflex_top.specs.declared.reply.Message.{Message}
 use Rattle.pipeflex_top.specs.declared.reply.Message.TheVariants.{Fixed, Built}
+use Rattle.pipeflex_top.specs.Analysis.{IsReport}
 use Rattle.pipeflex_top.specs.Enclosure.{PrintsEnclosures}
 use Rattle.pipeflex_top.specs.MemberTable.{table_of}
+use Rattle.pipeflex_top.specs.OneStraight.{IsOneStraight}
 use Rattle.pipeflex_top.specs.Refusal.{refusal_line}
 
 -- ---- the words
 
--- the word of a command
-abbrev pub command_word : Command → List ℕ
-command_word Members = codes "members"
-command_word Echo = codes "echo"
+-- the words ask for an analysis by 4 workers, or state how many, from 1 to 64
+pub data AskAnalysis (words : List (List ℕ)) (workers : ℕ) : Type 0 where
+  plain : words ≡ codes "analyse" ∷ [] → workers ≡ 4 → AskAnalysis words workers
+  stated : words ≡ codes "analyse" ∷ codes "--workers" ∷ decimal workers ∷ [] → 1 ≤ workers → workers ≤ 64 → AskAnalysis words workers
 
--- the words ask for this command
+-- these words ask for the command
+abbrev pub Ask : List (List ℕ) → Command → Type 0
+Ask words Members = words ≡ codes "members" ∷ []
+Ask words Echo = words ≡ codes "echo" ∷ []
+Ask words (Analyse workers) = AskAnalysis words workers
+
+-- the words of the command line ask for the command
 abbrev pub Asks : List (String Global) → Command → Type 0
-Asks words command = map string_bytes words ≡ command_word command ∷ []
+Asks words command = Ask (map string_bytes words) command
 
 -- the words have the form of some command
 abbrev pub HasForm : List (String Global) → Type 0
@@ -46,32 +55,56 @@ abbrev pub message_bytes : Message → List ℕ
 message_bytes (Fixed bytes) = bytes.now
 message_bytes (Built bytes) = bytes.items
 
--- what a command makes of a model: its member table, or its canonical text
-abbrev pub output_of : Command → Lists → List ℕ
-output_of Members m = table_of m
-output_of Echo m = canonical m
-
 -- ---- the answer to a text
 
--- the text is that of a model, and the output is the command's on it
-pub record IsAccepted (command : Command) (text output message : List ℕ) : Type 0 where
+-- the models that a command takes
+abbrev pub Takes : Command → Lists → Type 0
+Takes Members m = ⊤
+Takes Echo m = ⊤
+Takes (Analyse workers) m = IsOneStraight m
+
+-- how a run ends that has written the command's output: no case is certified yet
+abbrev pub ending_of : Command → Status
+ending_of Members = Done
+ending_of Echo = Done
+ending_of (Analyse workers) = Uncertified
+
+-- what a command makes of a model: its member table, its canonical text, or its report
+abbrev pub IsOutputOf : Command → Lists → List ℕ → Type 0
+IsOutputOf Members m output = (output ≡ table_of m) × PrintsEnclosures m
+IsOutputOf Echo m output = output ≡ canonical m
+IsOutputOf (Analyse workers) m output = IsReport m output
+
+-- the output is the command's on the model, and the run ends so
+pub record IsOutput (command : Command) (m : Lists) (output : List ℕ) (status : Status) : Type 0 where
+  pub taken : Takes command m
+  pub made : IsOutputOf command m output
+  pub ends : status ≡ ending_of command
+
+-- the text is refused for a command: by its grammar, or because the command doesn't take its model yet
+pub data IsRefusedFor (command : Command) (text : List ℕ) : Refusal → Type 0 where
+  faulty : (refusal : Refusal) → parsed text ≡ Err refusal → IsRefusedFor command text refusal
+  unbuilt : (m : Lists) → parsed text ≡ Ok m → ¬ (Takes command m) → IsRefusedFor command text (record { number = 17; line = 1 })
+
+-- the text is that of a model that the command takes, and the output is the command's on it
+pub record IsAccepted (command : Command) (text output message : List ℕ) (status : Status) : Type 0 where
   pub model : Lists
   pub text_is : parsed text ≡ Ok model
-  pub written : output ≡ output_of command model
-  pub enclosures : command ≡ Members → PrintsEnclosures model
+  pub written : IsOutput command model output status
   pub silent : message ≡ []
 
 -- the text is refused, and the message is the line that tells so
-pub record IsRefused (text output message : List ℕ) : Type 0 where
+pub record IsRefused (command : Command) (text output message : List ℕ) : Type 0 where
   pub refusal : Refusal
-  pub text_is : parsed text ≡ Err refusal
+  pub refused : IsRefusedFor command text refusal
   pub empty : output ≡ []
   pub line : message ≡ refusal_line refusal
 
 -- what is to be written for a text, by how the run ends
 abbrev pub IsAnswer : Command → List ℕ → List ℕ → List ℕ → Status → Type 0
-IsAnswer command text output message Done = IsAccepted command text output message
-IsAnswer command text output message Refused = IsRefused text output message
+IsAnswer command text output message Done = IsAccepted command text output message Done
+IsAnswer command text output message Uncertified = IsAccepted command text output message Uncertified
+IsAnswer command text output message Refused = IsRefused command text output message
 IsAnswer command text output message NoMemory = (output ≡ []) × (message ≡ [])
 IsAnswer command text output message _ = ⊥
 
@@ -82,22 +115,22 @@ abbrev pub ReadsText : Option (List ℕ) → Option (List ℕ) → Type 0
 ReadsText left after = IfSome left (λ text. after ≡ Some (drop 4194305 text))
 
 -- the answer is what the words ask for, of the model whose text was read
-pub record AnswersModel (words : List (String Global)) (left after : Option (List ℕ)) (output message : List ℕ) : Type 0 where
+pub record AnswersModel (words : List (String Global)) (left after : Option (List ℕ)) (output message : List ℕ) (status : Status) : Type 0 where
   pub command : Command
   pub asked : Asks words command
   pub read : ReadsText left after
   pub model : Lists
   pub text : IfSome left (λ text. parsed text ≡ Ok model)
-  pub written : output ≡ output_of command model
-  pub enclosures : command ≡ Members → PrintsEnclosures model
+  pub written : IsOutput command model output status
   pub silent : message ≡ []
 
 -- the answer is the line that refuses the text that was read
 pub record AnswersRefusal (words : List (String Global)) (left after : Option (List ℕ)) (output message : List ℕ) : Type 0 where
-  pub form : HasForm words
+  pub command : Command
+  pub asked : Asks words command
   pub read : ReadsText left after
   pub refusal : Refusal
-  pub text : IfSome left (λ text. parsed text ≡ Err refusal)
+  pub text : IfSome left (λ text. IsRefusedFor command text refusal)
   pub empty : output ≡ []
   pub line : message ≡ refusal_line refusal
 
@@ -110,15 +143,16 @@ pub record AnswersWithoutText (words : List (String Global)) (left after : Optio
 
 -- what is to be written to `out` and to `err` by a run that ends so: `left` is what the source had left, and `after` what it has
 abbrev pub Answers : List (String Global) → Option (List ℕ) → Option (List ℕ) → List ℕ → List ℕ → Status → Type 0
-Answers words left after output message Done = AnswersModel words left after output message
-Answers words left after output message Uncertified = ⊥
+Answers words left after output message Done = AnswersModel words left after output message Done
+Answers words left after output message Uncertified = AnswersModel words left after output message Uncertified
 Answers words left after output message Refused = AnswersRefusal words left after output message
 Answers words left after output message Usage = ¬ (HasForm words) × (output ≡ []) × (message ≡ usage_line)
 Answers words left after output message ReadFault = AnswersWithoutText words left after output message read_fault_line
 Answers words left after output message WriteFault = ⊥
 Answers words left after output message NoMemory = AnswersWithoutText words left after output message []
 
--- where nothing fails: Done for the text of a model, Refused for another, or memory ran out
-pub record Decides (status : Status) (text : List ℕ) : Type 0 where
-  pub accepted : IsOk (parsed text) → (status ≡ Done) ⊎ (status ≡ NoMemory)
-  pub refused : IsErr (parsed text) → (status ≡ Refused) ⊎ (status ≡ NoMemory)
+-- where nothing fails: for the text of a model that the command takes, the command's own ending; Refused for a text that is
+-- refused; or memory ran out
+pub record Decides (words : List (String Global)) (status : Status) (text : List ℕ) : Type 0 where
+  pub accepted : (command : Command) (m : Lists) → Asks words command → parsed text ≡ Ok m → Takes command m → (status ≡ ending_of command) ⊎ (status ≡ NoMemory)
+  pub refused : (command : Command) (refusal : Refusal) → Asks words command → IsRefusedFor command text refusal → (status ≡ Refused) ⊎ (status ≡ NoMemory)

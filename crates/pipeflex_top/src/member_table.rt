@@ -1,21 +1,19 @@
 //! The member table of a model.
 
-ghost use Rattle.std.specs.Prelude.{◌≡◌, ◌<◌, ◌++◌, length, OnOk, IfOk};
-ghost use Rattle.std.specs.List.{flat_map, slice_index_or};
-ghost use Rattle.model_types.specs.Ranges.{NodeInForm, MaterialInForm};
+ghost use Rattle.std.specs.Prelude.{◌≡◌, ◌++◌, OnOk, IfOk};
+ghost use Rattle.std.specs.List.{flat_map};
 ghost use Rattle.model_types.specs.Rules.{KeepsElement};
-ghost use Rattle.section_data.specs.Tube.{IsTube};
-ghost use Rattle.pipeflex_top.specs.Elements.{members_of, material_of, no_node, no_section};
-ghost use Rattle.pipeflex_top.specs.Enclosure.{EnclosesElement, PrintsEnclosures};
+ghost use Rattle.structure.specs.Enclosure.{EnclosesElement};
+ghost use Rattle.pipeflex_top.specs.Enclosure.{PrintsEnclosures};
 ghost use Rattle.pipeflex_top.specs.MemberTable.{kappa_words, kappa_lines, element_text, table_of};
 ghost use Rattle.text_words.specs.Fields.{line};
 
 use flex_interval::{Iv, Wide};
 use itoa::Buffer;
 use member_set::Member;
-use model_types::{Element, Material, Model, NoMemory, Node, NodeId, Section, SectionId};
-use pipe_element::straight;
+use model_types::{Element, Model, NoMemory};
 use std::alloc::Global;
+use structure::element_members;
 use text_words::push_line;
 
 /// The member table: for each element in order the intervals of its members' stiffnesses, in 2^-20 N/m.
@@ -47,7 +45,7 @@ fn push_element(out: &mut Vec<u8>, model: &Model, element: &Element) -> Result<(
     ensures encloses { EnclosesElement model.now element.now }
 {
     let name = element.name.bytes();
-    match members(model, element) {
+    match element_members(model, element) {
         Ok(members) => {
             push_line(out, &[b"element", name, b"straight", b"8"])?;
             push_kappas(out, &members)?;
@@ -76,47 +74,6 @@ fn push_kappa(out: &mut Vec<u8>, j: u8, kappa: Iv) -> Result<(), NoMemory>
     let lo = lo.format(kappa.lo).as_bytes();
     let hi = hi.format(kappa.hi).as_bytes();
     push_line(out, &[b"kappa", number, lo, hi])
-}
-
-// The members of an element.
-fn members(model: &Model, element: &Element) -> Result<[Member; 8], Wide>
-    requires { KeepsElement model.now.nodes model.now.sections element.now }
-    ensures value { result ≡ members_of model.now element.now }
-    ensures encloses { EnclosesElement model.now element.now }
-{
-    let from = node(model, element.from);
-    let to = node(model, element.to);
-    let section = section(model, element.section);
-    let material = material(model, section);
-    straight(element, from, to, section, material)
-}
-
-fn node(model: &Model, id: NodeId) -> &Node
-    requires { id.0 < length model.now.nodes }
-    ensures value { result.now ≡ slice_index_or model.now.nodes id.0 no_node }
-    ensures form { NodeInForm result.now }
-{
-    let nodes = model.nodes();
-    &nodes[id.0 as usize]
-}
-
-fn section(model: &Model, id: SectionId) -> &Section
-    requires { id.0 < length model.now.sections }
-    ensures value { result.now ≡ slice_index_or model.now.sections id.0 no_section }
-    ensures tube { IsTube result.now }
-    ensures material { result.now.material.0 < length model.now.materials }
-{
-    let sections = model.sections();
-    &sections[id.0 as usize]
-}
-
-fn material<'a>(model: &'a Model, section: &Section) -> &'a Material
-    requires { section.now.material.0 < length model.now.materials }
-    ensures value { result.now ≡ material_of model.now section.now }
-    ensures form { MaterialInForm result.now }
-{
-    let materials = model.materials();
-    &materials[section.material.0 as usize]
 }
 
 #[cfg(test)]

@@ -14,8 +14,8 @@ use std::alloc::Global;
 use std::thread::Threads;
 
 /// Runs the program on the words of its command line, without the program's name, and answers how
-/// it ended. It returns for every input. On the model of the text, `members` writes the member table
-/// and `echo` the canonical text.
+/// it ended. It returns for every input. On the model of the text, `members` writes the member table,
+/// `echo` the canonical text and `analyse` the report.
 ///
 /// The words are tested first. Then the source is read to its end, or to the byte past the limit of
 /// a text. Then the text is judged and the output is built whole, before its first byte is written. A
@@ -67,7 +67,7 @@ pub fn run<R: Threads + Sync, S: Source, K: Sink, E: Sink, G: Gate>(
         → ¬ Rose (S.faults source.old) (S.faults source.new)
         → ¬ Rose (K.faults out.old) (K.faults out.new)
         → ¬ Rose (E.faults err.old) (E.faults err.new)
-        → IfSome (S.left source.old) (Decides result) }
+        → IfSome (S.left source.old) (Decides words.now result) }
 {
     let reply = reply_to(alloc, words, source);
     deliver(&reply, out, err)

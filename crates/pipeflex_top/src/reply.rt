@@ -1,13 +1,13 @@
 //! What the program has to say, before the first byte of it is written.
-ghost use Rattle.std.specs.Prelude.{◌≡◌, ◌≤◌, ℕ, List, [], IfOk, OnOk, Err, Ok};
+ghost use Rattle.std.specs.Prelude.{◌≡◌, ◌≤◌, ◌↔◌, ℕ, List, [], IfOk, IsTrue, Ok};
 ghost use Rattle.flex_io.specs.Fault.{Rose};
 ghost use Rattle.model_text.specs.Grammar.{parsed};
-ghost use Rattle.model_types.specs.Lists.{Lists};
-ghost use Rattle.pipeflex_top.specs.Enclosure.{PrintsEnclosures};
-ghost use Rattle.pipeflex_top.specs.Run.{Answers, HasForm, IsAnswer, message_bytes, output_of};
+ghost use Rattle.pipeflex_top.specs.Run.{Answers, HasForm, IsAnswer, IsOutput, IsRefusedFor, Takes, message_bytes};
 
+use crate::analysis::analysis;
 use crate::commands::{Command, command_of};
 use crate::member_table::member_table;
+use crate::one_straight::is_one_straight;
 use crate::refusal::refusal_line;
 use flex_io::{Source, Status, TakeFault, take_all};
 use model_text::{TextFault, echo, read};
@@ -75,41 +75,73 @@ fn answer(alloc: Global, command: Command, text: &[u8]) -> Reply
     ensures { IsAnswer command text.now result.output.items (message_bytes result.message) result.status }
 {
     match read(alloc, text) {
-        Ok(model) => accepted(alloc, command, &model),
+        Ok(model) => judged(alloc, command, &model),
         Err(TextFault::Refused { number, line }) => refused(alloc, number, line),
         Err(TextFault::NoMemory) => line_only(alloc, Status::NoMemory, b""),
     }
 }
 
 // The reply to the text of a model.
+fn judged(alloc: Global, command: Command, model: &Model) -> Reply
+    ensures { (text : List ℕ) → parsed text ≡ Ok model.now
+        → IsAnswer command text result.output.items (message_bytes result.message) result.status }
+{
+    if !takes(command, model) {
+        return refused(alloc, 17, 1);
+    }
+    accepted(alloc, command, model)
+}
+
+// Whether the command takes the model.
+fn takes(command: Command, model: &Model) -> bool
+    ensures { IsTrue result ↔ Takes command model.now }
+{
+    match command {
+        Command::Members => true,
+        Command::Echo => true,
+        Command::Analyse { .. } => is_one_straight(model),
+    }
+}
+
+// The reply to the text of a model that the command takes.
 fn accepted(alloc: Global, command: Command, model: &Model) -> Reply
+    requires { Takes command model.now }
     ensures { (text : List ℕ) → parsed text ≡ Ok model.now
         → IsAnswer command text result.output.items (message_bytes result.message) result.status }
 {
     match output(alloc, command, model) {
-        Ok(output) => Reply {
-            status: Status::Done,
-            output,
+        Ok(written) => Reply {
+            status: written.status,
+            output: written.bytes,
             message: Message::Fixed(b""),
         },
         Err(AllocError) => line_only(alloc, Status::NoMemory, b""),
     }
 }
 
+// What is to be written for a model, and how the run then ends.
+#[derive(Drop)]
+struct Written {
+    bytes: Vec<u8>,
+    status: Status,
+}
+
 // What the command makes of a model.
-fn output(alloc: Global, command: Command, model: &Model) -> Result<Vec<u8>, NoMemory>
-    ensures output { IfOk result (λ bytes. bytes.items ≡ output_of command model.now) }
-    ensures encloses { command ≡ Command.Members → OnOk result (PrintsEnclosures model.now) }
+fn output(alloc: Global, command: Command, model: &Model) -> Result<Written, NoMemory>
+    requires { Takes command model.now }
+    ensures { IfOk result (λ written. IsOutput command model.now written.bytes.items written.status) }
 {
-    match command {
-        Command::Members => member_table(alloc, model),
-        Command::Echo => echo(alloc, model),
-    }
+    let (bytes, status) = match command {
+        Command::Members => (member_table(alloc, model)?, Status::Done),
+        Command::Echo => (echo(alloc, model)?, Status::Done),
+        Command::Analyse { .. } => (analysis(alloc, model)?, Status::Uncertified),
+    };
+    Ok(Written { bytes, status })
 }
 
 // The reply to a text that is refused by this number at this line.
 fn refused(alloc: Global, number: u8, line: u32) -> Reply
-    ensures { (command : Command) → (text : List ℕ) → parsed text ≡ Err (record { number = number; line = line })
+    ensures { (command : Command) → (text : List ℕ) → IsRefusedFor command text (record { number = number; line = line })
         → IsAnswer command text result.output.items (message_bytes result.message) result.status }
 {
     match refusal_line(alloc, number, line) {

@@ -85,9 +85,13 @@ straight_members-sound e k w nodes from to are =
     let across = and_parts (is_stiffness k.bending) (is_stiffness k.shear) pairs.1 in
     let bending = λ (v : List Ends). sound e k.bending v nodes from to across.0 in
     let shear = λ (v : List Ends). sound e k.shear v nodes from to across.1 in
-    All-from_recursion (IsSound nodes) (straight_members e k w)
-    (sound e k.axial _ nodes from to along.0, (sound e k.torsion _ nodes from to along.1,
-    (bending _, (bending _, (bending _, (shear _, (shear _, (shear _, tt))))))))
+    All-from_recursion (IsSound nodes) (straight_members e k w) (
+      sound e k.axial _ nodes from to along.0,
+      (
+        sound e k.torsion _ nodes from to along.1,
+        (bending _, (bending _, (bending _, (shear _, (shear _, (shear _, tt)))))),
+      ),
+    )
 
 limited-from : (e : Element) (k : Stiffness) (w : Shapes) (members : List Member) → limited e k w ≡ Ok members → (are_stiffnesses k ≡ true) × (straight_members e k w ≡ members)
 limited-from e k w members is =

@@ -63,9 +63,11 @@ ListsTouching-more members n old new m at before step =
       touching = λ node k. (
         λ found. elim ((step.members node k).0 found) [
           | inl old' ↦ (let known = (before.touching node k).0 old' in let below : k < n = known.0 in (omega arith, known.1))
-          | inr (touch, is) ↦ (omega arith,
-              subst (λ (x : ℕ). Touches (get_or members x no_member) node) (sym is)
-              (subst (λ (x : Member). Touches x node) (sym at) touch))
+          | inr (touch, is) ↦ (
+            omega arith,
+            subst (λ (x : ℕ). Touches (get_or members x no_member) node) (sym is)
+                (subst (λ (x : Member). Touches x node) (sym at) touch),
+          )
         ],
         λ (below, touch). (step.members node k).1 (elim (cases_lt k n) [
           | inl less ↦ inl ((before.touching node k).1 (less, touch))

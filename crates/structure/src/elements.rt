@@ -56,7 +56,6 @@ fn material<'a>(model: &'a Model, section: &Section) -> &'a Material
     &materials[section.material.0 as usize]
 }
 
-
 /// The members of a model's elements, in order, or the first element that leaves its limits.
 pub fn all_element_members(alloc: Global, model: &Model) -> Result<Vec<Member>, BuildFault>
     ensures value { IfOk result (λ members. all_of model.now (length model.now.elements) ≡ Ok members.items) }

@@ -10,3 +10,6 @@ mod touching;
 pub use building::build;
 pub use elements::element_members;
 pub use fault::BuildFault;
+
+#[cfg(test)]
+mod tests;

@@ -83,13 +83,7 @@ fn are_ends(intervals: &[Iv], ends: &[(i128, i128)]) -> bool {
 }
 
 // Whether there are no bounds where only the first freedom has a load and a displacement.
-fn is_wide(
-    alloc: Global,
-    kappa: Iv,
-    load: i128,
-    u: i128,
-    lambda: i128,
-) -> Result<bool, AllocError>
+fn is_wide(alloc: Global, kappa: Iv, load: i128, u: i128, lambda: i128) -> Result<bool, AllocError>
     requires stiff { IsStiff kappa }
     requires load { unsigned_abs load < 2 ^ 126 }
     requires moderate { unsigned_abs u ≤ 2 ^ 60 }
@@ -154,13 +148,19 @@ fn limits(rt: HostRuntime) -> Result<(), Fail> {
     let soft = point(3 << 20);
     let stiff = point(1 << 60);
     let rows = [
-        (is_wide(rt.alloc(), stiff, (1 << 66) - (1 << 24), (1 << 42) - 1, 1)?, false),
+        (
+            is_wide(rt.alloc(), stiff, (1 << 66) - (1 << 24), (1 << 42) - 1, 1)?,
+            false,
+        ),
         (is_wide(rt.alloc(), stiff, 1 << 66, 1 << 42, 1)?, true),
         (is_wide(rt.alloc(), soft, (1 << 63) - 1, 0, 1 << 40)?, false),
         (is_wide(rt.alloc(), soft, 1 << 63, 0, 1 << 40)?, true),
         (is_wide(rt.alloc(), soft, (1 << 24) - 1, 0, 1)?, false),
         (is_wide(rt.alloc(), soft, 1 << 24, 0, 1)?, true),
-        (is_wide(rt.alloc(), stiff, (1 << 40) - 1, 0, 1 << 20)?, false),
+        (
+            is_wide(rt.alloc(), stiff, (1 << 40) - 1, 0, 1 << 20)?,
+            false,
+        ),
         (is_wide(rt.alloc(), stiff, 1 << 40, 0, 1 << 20)?, true),
     ];
     for (answer, expected) in rows {

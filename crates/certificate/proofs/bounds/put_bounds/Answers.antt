@@ -1,8 +1,8 @@
-use Rattle.std.proofs.Common.{rules, ◌≡◌, ◌^◌, subst, FitsSigned, to_z-of_z, ℤ, pos, ◌≤ℤ◌}
+use Rattle.std.proofs.Common.{rules, ◌^◌, subst, FitsSigned, to_z-of_z, ℤ, pos, ◌≤ℤ◌}
 use Rattle.std.specs.Int.{w128}
 use Rattle.std.proofs.lemmas.Result.{err_from_is_err_and, on_ok_weaker, on_err_weaker}
 use Rattle.member_set.specs.Members.{member_of}
-use Rattle.certificate.specs.Bounds.{HasNoBounds, unsteady}
+use Rattle.certificate.specs.Bounds.{unsteady}
 use Rattle.certificate.specs.Enclosure.{force_radius_of}
 use Rattle.certificate.proofs.BoundsLemmas.{forces_limited, bounds_enclose}
 use Rattle.certificate.proofs.bounds.put_bounds.Goals as goal

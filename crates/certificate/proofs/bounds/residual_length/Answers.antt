@@ -1,4 +1,4 @@
-use Rattle.std.proofs.Common.{rules, ◌≡◌, ℕ, ◌<◌, ◌⊎◌, inl, inr, length, sym, refl, subst, ◌∙◌, arith, FitsSigned, to_z-of_z, ℤ, pos, ◌*ℤ◌, ◌≤ℤ◌, Ok}
+use Rattle.std.proofs.Common.{rules, ◌≡◌, ℕ, ◌<◌, ◌⊎◌, inl, inr, sym, refl, subst, arith, FitsSigned, to_z-of_z, ℤ, pos, ◌*ℤ◌, ◌≤ℤ◌}
 use Rattle.std.specs.Prelude.{IsOk, IsErr}
 use Rattle.std.specs.Int.{w128}
 use Rattle.std.proofs.lemmas.Result.{err_from_is_err_and}
@@ -8,7 +8,7 @@ use Rattle.flex_interval.specs.Fraction.{Within}
 use Rattle.member_set.specs.Members.{row_count}
 use Rattle.member_set.specs.Realisation.{displaced, exact_residual}
 use Rattle.member_set.specs.Interval.{Outcome, residual_of}
-use Rattle.certificate.specs.Bounds.{residual_at, HasNoBounds, no_residual, long}
+use Rattle.certificate.specs.Bounds.{residual_at, no_residual, long}
 use Rattle.certificate.proofs.RoundingLaw.{sizes_give_length}
 use Rattle.certificate.proofs.BoundsLemmas.{found_is, found_ok, square_of, sum_more, sum_too_long}
 use Rattle.certificate.proofs.bounds.residual_length.Goals as goal

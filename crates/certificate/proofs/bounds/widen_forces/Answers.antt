@@ -1,10 +1,8 @@
-use Rattle.std.proofs.Common.{rules, ◌≡◌, ℕ, ◌<◌, ◌⊎◌, inl, inr, length, sym, refl, subst, ◌∙◌, arith, get_or, get_or-set_other, FitsSigned, to_z-of_z, pos, ◌^◌, ◌<ℤ◌, ap}
+use Rattle.std.proofs.Common.{rules, ◌≡◌, ◌<◌, ◌⊎◌, inl, inr, length, sym, refl, ◌∙◌, arith, get_or, get_or-set_other, FitsSigned, to_z-of_z}
 use Rattle.std.specs.Int.{w128}
 use Rattle.std.proofs.Math.ListN.{length-set}
 use Rattle.std.proofs.lemmas.List.{get_or_read_under}
-use Rattle.member_set.specs.declared.members.Member.{Member}
-use Rattle.member_set.specs.Members.{nothing, no_member, member_of, force_of}
-use Rattle.certificate.specs.Enclosure.{force_radius_of, widened}
+use Rattle.member_set.specs.Members.{nothing, no_member, member_of}
 use Rattle.certificate.proofs.BoundsLemmas.{force_wider}
 use Rattle.certificate.proofs.bounds.widen_forces.Goals as goal
 

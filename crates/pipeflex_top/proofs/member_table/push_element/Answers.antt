@@ -1,7 +1,7 @@
 use Rattle.std.proofs.Common.{◌≡◌, ◌++◌, Ok, subst, sym, ◌∙◌}
 use Rattle.std.specs.List.{flat_map}
 use Rattle.text_words.specs.Fields.{line}
-use Rattle.pipeflex_top.specs.Elements.{members_of}
+use Rattle.structure.specs.Elements.{members_of}
 use Rattle.pipeflex_top.specs.MemberTable.{element_lines}
 use Rattle.pipeflex_top.proofs.TableLemmas.{element_written}
 use Rattle.pipeflex_top.proofs.member_table.push_element.Goals as goal
@@ -11,6 +11,6 @@ returns-in_ok-push_kappas-in-Ok-clause-bytes c =
     let old = c.args.out.now.items in
     let new = c.push_kappas.new.out.items in
     let made = members_of c.args.model.now c.args.element.now in
-    let is : made ≡ Ok c.in-Ok.members = sym c.members.ensures.value ∙ c.in-Ok.is in
+    let is : made ≡ Ok c.in-Ok.members = sym c.element_members.ensures.value ∙ c.in-Ok.is in
     subst (λ name. new ≡ old ++ flat_map line (element_lines name made)) c.bytes-name.ensures.bytes
     (element_written old c.push_line.new.out.items new c.bytes-name.result.now made c.in-Ok.members is c.in_ok-push_line-in-Ok.ensures c.in_ok-push_kappas-in-Ok.ensures)

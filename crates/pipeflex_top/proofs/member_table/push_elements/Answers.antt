@@ -1,6 +1,6 @@
 use Rattle.std.proofs.Common.{◌++◌, ap, subst, ◌∙◌}
 use Rattle.std.proofs.lemmas.List.Elements.{All-more}
-use Rattle.pipeflex_top.specs.Enclosure.{EnclosesElement}
+use Rattle.structure.specs.Enclosure.{EnclosesElement}
 use Rattle.pipeflex_top.specs.MemberTable.{element_text}
 use Rattle.pipeflex_top.proofs.TableLemmas.{flat_map-taken}
 use Rattle.pipeflex_top.proofs.member_table.push_elements.Goals as goal

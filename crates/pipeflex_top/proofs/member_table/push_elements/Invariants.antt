@@ -1,6 +1,6 @@
 use Rattle.std.proofs.Common.{◌≡◌, ◌++◌, take}
 use Rattle.std.specs.List.{All, flat_map}
-use Rattle.pipeflex_top.specs.Enclosure.{EnclosesElement}
+use Rattle.structure.specs.Enclosure.{EnclosesElement}
 use Rattle.pipeflex_top.specs.MemberTable.{element_text}
 use Rattle.pipeflex_top.proofs.member_table.push_elements.Given as goal
 

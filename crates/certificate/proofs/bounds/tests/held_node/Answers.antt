@@ -1,4 +1,4 @@
-use Rattle.std.proofs.Common.{◌≡◌, ℕ, zero, suc, ◌<◌, ◌⊎◌, inl, inr, ◌∙◌, sym, ap, subst, arith, List, [], ◌∷◌, ◌++◌, length, slice_index, get_or}
+use Rattle.std.proofs.Common.{◌≡◌, ℕ, zero, suc, ◌<◌, inl, ◌∙◌, sym, ap, subst, arith, List, [], ◌∷◌, ◌++◌, length, slice_index, get_or}
 use Rattle.std.specs.Prelude.{All, AllPairs, Contains, ◌↔◌}
 use Rattle.std.proofs.lemmas.Grind.{get_or_default_zero}
 use Rattle.flex_interval.specs.Ends.{Ends}
@@ -18,13 +18,12 @@ at_rising numbers n as_many count (suc node) = λ i j d less inside. absurd (ome
 at_touching : (members : List Member) (kappa : Ends) (numbers : List ℕ) → length numbers ≡ length members → ((k : ℕ) → k < length members → slice_index numbers k ≡ k) →
     All (λ m. (m.n1 ≡ 0) × (m.n2 ≡ 0) × (m.kappa ≡ kappa)) members → (node k : ℕ) → node < 1 →
     Contains (get_or (numbers ∷ []) node []) k ↔ ((k < length members) × Touches (get_or members k no_member) node)
-at_touching members kappa numbers as_many count at_node zero k inside =
-    (
-      λ found.
+at_touching members kappa numbers as_many count at_node zero k inside = (
+  λ found.
       let k_inside : k < length members = omega (arith, found.2, get_or_default_zero numbers found.0 k found.1, count found.0 (omega arith)) in
       (k_inside, inl (at_node k no_member k_inside).0),
-      λ touch. (k, omega arith, get_or_default_zero numbers k k (omega arith) ∙ count k touch.0),
-    )
+  λ touch. (k, omega arith, get_or_default_zero numbers k k (omega arith) ∙ count k touch.0),
+)
 at_touching members kappa numbers as_many count at_node (suc node) k inside = absurd (omega arith)
 
 one_node : (b : Built) (kappa : Ends) (numbers : List ℕ) → b.at ≡ numbers ∷ [] → length numbers ≡ length b.members →

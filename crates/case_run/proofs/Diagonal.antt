@@ -1,0 +1,22 @@
+-- The diagonal of a factor is positive: it has the roots of the pivots, which are at least 1.
+use Rattle.std.proofs.Common.{ℕ, ◌*◌, ◌/◌, ◌<◌, List, Option, length, ap, arith, ℤ, pos, ◌≤ℤ◌, ◌<ℤ◌}
+use Rattle.std.proofs.lemmas.Int.{ints}
+use Rattle.flex_num.specs.Root.{root_of}
+use Rattle.flex_num.proofs.RootLemmas.{root_of-is}
+use Rattle.cholesky_laws.specs.Recurrence.{pivot}
+use Rattle.cholesky_laws.proofs.RecurrenceLemmas.{cholesky-diagonal}
+use Rattle.factor_data.specs.Columns.{Columns}
+use Rattle.factor.specs.Scalar.{IsFactorOf}
+use Rattle.case_run.specs.Steps.{HasDiagonal}
+
+root_positive : (p : ℤ) → pos 1 ≤ℤ p → pos 0 <ℤ root_of p
+root_positive p least =
+    let root = root_of-is p (omega (arith, ints)) in
+    let one = root.greatest (pos 1) (omega (arith, ints)) in
+    omega (arith, ints)
+
+pub diagonal_positive : (a : ℕ → ℕ → ℤ) (order : List ℕ) (parents : List (Option ℕ)) (f : Columns) → IsFactorOf a order parents f → HasDiagonal f
+diagonal_positive a order parents f factor j below =
+    let inside : j < 6 * length order = omega (arith, ap length factor.order_is) in
+    let least = (factor.passes (j / 6) (omega arith)).pivots j (omega arith, omega arith) in
+    rw (factor.entries j j inside inside, cholesky-diagonal a j least) (root_positive (pivot a j) least)

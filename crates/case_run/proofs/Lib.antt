@@ -1,0 +1,3 @@
+pub mod Matrices
+pub mod Diagonal
+pub mod Faults

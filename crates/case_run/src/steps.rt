@@ -1,0 +1,139 @@
+ghost use Rattle.std.specs.Prelude.{◌≡◌, ◌<◌, ◌≤◌, ℕ, length, [], IfOk, IfErr, ℤ, pos, ◌≤ℤ◌, ◌^◌};
+ghost use Rattle.member_set.specs.Members.{IsBuilt, FitsBuilt, node_count, row_count};
+ghost use Rattle.assembly.specs.Stiffness.{AreAssembled};
+ghost use Rattle.factor.specs.State.{AreParents};
+ghost use Rattle.factor_data.specs.Order.{IsOrder};
+ghost use Rattle.load_vectors.specs.Loads.{AreLoads, HasForcesAlone, case_at};
+ghost use Rattle.solve.specs.Refinement.{problem, IsCandidate};
+ghost use Rattle.structure.specs.Anchors.{HasAnchorsAlone};
+ghost use Rattle.structure.specs.Structure.{IsStructureOf, IsStiff};
+ghost use Rattle.case_run.specs.Candidate.{plan, resting_laws, IsFactorAt, IsElementCause, IsMatrixCause, IsLoadCause, IsBreakdownCause, IsSolveCause};
+ghost use Rattle.case_run.specs.Steps.{Names, IsFactorable, HasDiagonal};
+
+use crate::fault::CaseFault;
+use assembly::{AssembleFault, assemble};
+use factor::{ScalarFault, scalar};
+use factor_data::Factor;
+use flex_interval::{Iv, point};
+use load_vectors::LoadFault;
+use member_set::{Built, Law};
+use model_types::{CaseId, Cause, Model, NodeId};
+use solve::{SolveFault, candidate};
+use std::alloc::{AllocError, Global};
+use structure::{BuildFault, build};
+use sym_blocks::SymBlocks;
+
+/// The structure of a model.
+pub(crate) fn structure_of(alloc: Global, m: &Model) -> Result<Built, CaseFault>
+    requires anchors { HasAnchorsAlone m.now }
+    ensures structure { IfOk result (IsStructureOf m.now) }
+    ensures stiff { IfOk result IsStiff }
+    ensures cause { IfErr result (Names (IsElementCause m.now)) }
+{
+    match build(alloc, m) {
+        Ok(b) => Ok(b),
+        Err(BuildFault::Wide(element)) => Err(CaseFault::Because(Cause::WidthElement(element))),
+        Err(BuildFault::NoMemory) => Err(CaseFault::NoMemory),
+    }
+}
+
+/// The middles and the radii of a structure's matrix.
+pub(crate) fn matrices_of(alloc: Global, b: &Built) -> Result<(SymBlocks, SymBlocks), CaseFault>
+    requires built { IsBuilt b.now }
+    requires linear { b.now.unilateral ≡ [] }
+    ensures assembled { IfOk result (λ m. AreAssembled b.now m.0 m.1) }
+    ensures factorable { IfOk result (λ m. IsFactorable (node_count b.now) m.0) }
+    ensures cause { IfErr result (Names (IsMatrixCause b.now)) }
+{
+    match assemble(alloc, b, &[]) {
+        Ok((middles, radii)) => {
+            // What every matrix keeps: it is 0 outside its pattern.
+            let _nodes = middles.pattern(0);
+            Ok((middles, radii))
+        }
+        Err(AssembleFault::Wide { row }) => Err(CaseFault::Because(Cause::WidthMatrix {
+            node: NodeId(row / 6),
+            freedom: row % 6,
+        })),
+        Err(AssembleFault::NoMemory) => Err(CaseFault::NoMemory),
+    }
+}
+
+/// The loads of a case.
+pub(crate) fn loads_of(alloc: Global, m: &Model, case: CaseId) -> Result<Vec<Iv>, CaseFault>
+    requires case_in_range { case.0 < length m.now.cases }
+    requires forces_alone { HasForcesAlone (case_at m.now case.0) }
+    ensures loads { IfOk result (λ loads. AreLoads m.now case.0 loads.items) }
+    ensures cause { IfErr result (Names (IsLoadCause m.now case.0)) }
+{
+    match load_vectors::loads(alloc, m, case) {
+        Ok(loads) => Ok(loads),
+        Err(LoadFault::Wide { row }) => Err(CaseFault::Because(Cause::WidthLoad {
+            node: NodeId(row / 6),
+            freedom: row % 6,
+        })),
+        Err(LoadFault::NoMemory) => Err(CaseFault::NoMemory),
+    }
+}
+
+/// The factor of the middles at a shift.
+pub(crate) fn factor_of(
+    alloc: Global,
+    middles: &SymBlocks,
+    order: &[u32],
+    parents: &[Option<u32>],
+    shift: i128,
+) -> Result<Factor, CaseFault>
+    requires few { length order.now ≤ 8000 }
+    requires order { IsOrder order.now }
+    requires factorable { IsFactorable (length order.now) middles.now }
+    requires shift_low { pos 0 ≤ℤ shift }
+    requires shift_high { shift ≤ℤ pos (2 ^ 44) }
+    requires parents_count { length parents.now ≡ length order.now }
+    requires parents_later { AreParents parents.now (length order.now) }
+    ensures factor { IfOk result (IsFactorAt (plan order.now parents.now) middles.now shift) }
+    ensures diagonal { IfOk result HasDiagonal }
+    ensures cause { IfErr result (Names (IsBreakdownCause (plan order.now parents.now) middles.now shift)) }
+{
+    match scalar(alloc, middles, order, parents, shift) {
+        Ok(factor) => Ok(factor),
+        Err(ScalarFault::Pivot { node, dof }) => Err(CaseFault::Because(Cause::Pivot {
+            node: NodeId(node),
+            freedom: dof,
+        })),
+        Err(ScalarFault::Wide { node }) => Err(CaseFault::Because(Cause::WidthFactor(NodeId(
+            node,
+        )))),
+        Err(ScalarFault::NoMemory) => Err(CaseFault::NoMemory),
+    }
+}
+
+/// The laws of a structure without initial deformations.
+pub(crate) fn laws_of(alloc: Global, b: &Built) -> Result<Vec<Law>, AllocError>
+    ensures { IfOk result (λ laws. laws.items ≡ resting_laws b.now) }
+{
+    vec![in alloc; Law::Linear { offset: point(0) }; b.members.as_slice().len()]
+}
+
+/// The displacements after eight turns of refinement.
+pub(crate) fn displacements_of(
+    alloc: Global,
+    b: &Built,
+    laws: &[Law],
+    loads: &[Iv],
+    factor: &Factor,
+) -> Result<Vec<i128>, CaseFault>
+    requires built { IsBuilt b.now }
+    requires lists { FitsBuilt b.now laws.now loads.now }
+    requires linear { b.now.unilateral ≡ [] }
+    requires nodes { length factor.now.order ≡ node_count b.now }
+    requires diagonal { HasDiagonal factor.now }
+    ensures candidate { IfOk result (λ u. IsCandidate (problem b.now laws.now loads.now factor.now) u.items) }
+    ensures cause { IfErr result (Names (IsSolveCause (problem b.now laws.now loads.now factor.now))) }
+{
+    match candidate(alloc, b, laws, &[], loads, factor) {
+        Ok(u) => Ok(u),
+        Err(SolveFault::Wide) => Err(CaseFault::Because(Cause::WidthSolve { turn: 1 })),
+        Err(SolveFault::NoMemory) => Err(CaseFault::NoMemory),
+    }
+}

@@ -1,0 +1,88 @@
+-- What the outcome of a case of a model with two nodes says of the model's report.
+use Rattle.std.proofs.Common.{◌≡◌, ℕ, zero, suc, ◌+◌, ◌*◌, ◌/◌, ◌%◌, ◌<◌, ◌≤◌, ◌^◌, List, [], ◌∷◌, ◌++◌, length, Result, Ok, Err, ℤ, pos, unsigned_abs, refl, sym, ap, subst, ◌∙◌, arith}
+use Rattle.std.specs.Prelude.{slice_index, slice_index_or, Contains}
+use Rattle.std.specs.List.{flat_map}
+use Rattle.std.proofs.lemmas.List.Elements.{All-weaker}
+use Rattle.case_run.specs.Candidate.{IsCaseCandidate, IsFirstCause, element, matrix, load, factor, solve, IsBreakdownCause, pivot, wide}
+use Rattle.factor_data.specs.Order.{IsOrder}
+use Rattle.flex_interval.specs.declared.fault.Wide.{Wide}
+use Rattle.member_set.specs.declared.members.Member.{Member}
+use Rattle.model_types.specs.Lists.{Lists}
+use Rattle.model_types.specs.declared.answers.Cause.{Cause}
+use Rattle.report.specs.Fits.{IsCauseIn, IsGuess, IsModest}
+use Rattle.structure.specs.Anchors.{restraint_members}
+use Rattle.structure.specs.Elements.{element_at, members_of}
+use Rattle.structure.specs.Structure.{Members, and_then, element_members, model_members, with_element}
+use Rattle.pipeflex_top.specs.Analysis.{text_order}
+use Rattle.sym_blocks.specs.Matrix.{Matrix}
+
+-- ---- the text's order of two nodes
+
+node_inside : (place : ℕ) → place < 2 → slice_index (0 ∷ 1 ∷ []) place < 2
+node_inside zero inside = omega arith
+node_inside (suc zero) inside = omega arith
+node_inside (suc (suc place)) inside = absurd (omega (arith, inside))
+
+nodes_apart : (k l : ℕ) → k < 2 → l < 2 → slice_index (0 ∷ 1 ∷ []) k ≡ slice_index (0 ∷ 1 ∷ []) l → k ≡ l
+nodes_apart zero zero a b same = refl
+nodes_apart zero (suc zero) a b same = same
+nodes_apart (suc zero) zero a b same = same
+nodes_apart (suc zero) (suc zero) a b same = refl
+nodes_apart (suc (suc k)) l a b same = absurd (omega (arith, a))
+nodes_apart zero (suc (suc l)) a b same = absurd (omega (arith, b))
+nodes_apart (suc zero) (suc (suc l)) a b same = absurd (omega (arith, b))
+
+node_there : (node : ℕ) → node < 2 → slice_index_or (0 ∷ 1 ∷ []) node node ≡ node
+node_there zero inside = refl
+node_there (suc zero) inside = refl
+node_there (suc (suc node)) inside = absurd (omega (arith, inside))
+
+pub IsOrder-text : IsOrder (0 ∷ 1 ∷ [])
+IsOrder-text = record {
+  spread = record { in_range = node_inside; apart = nodes_apart };
+  complete = λ node inside. (node, inside, node_there node inside);
+}
+
+-- ---- the records that a cause names
+
+-- with the members of one more element the first wide element is still among those so far
+wide_next : (n number : ℕ) (before : Members) (made : Result (List Member) Wide) → ((k : ℕ) → before ≡ Err k → k < n) → and_then before (with_element n made) ≡ Err number → number < suc n
+wide_next n number (Ok members) (Ok more) below e = absurd (cc e)
+wide_next n number (Ok members) (Err w) below e = let same : n ≡ number = cc e in omega (arith, same)
+wide_next n number (Err k) made below e = let same : k ≡ number = cc e in omega (arith, same, below k refl)
+
+wide_below : (m : Lists) (n number : ℕ) → element_members m n ≡ Err number → number < n
+wide_below m zero number e = absurd (cc e)
+wide_below m (suc n) number e = wide_next n number (element_members m n) (members_of m (element_at m n)) (wide_below m n) e
+
+-- a fault stays where members are put behind
+fault_before : (made : Members) (more : List Member) (number : ℕ) → and_then made (λ members. Ok (members ++ more)) ≡ Err number → made ≡ Err number
+fault_before (Ok members) more number e = absurd (cc e)
+fault_before (Err k) more number e = e
+
+-- a wide element is one of the model's
+wide_element : (m : Lists) (number : ℕ) → model_members m ≡ Err number → number < length m.elements
+unfolding model_members
+wide_element m number e = wide_below m (length m.elements) number (fault_before (element_members m (length m.elements)) (flat_map restraint_members m.restraints) number e)
+
+-- the node and the freedom of a row
+row_inside : (row nodes : ℕ) → row < 6 * nodes → (row / 6 < nodes) × (row % 6 < 6)
+row_inside row nodes inside = (omega (arith, inside), omega arith)
+
+broken_inside : (m : Lists) (middles : Matrix) (cause : Cause) → length m.nodes ≡ 2 → IsBreakdownCause text_order middles (pos 0) cause → IsCauseIn m cause
+broken_inside m middles cause two (pivot node dof broken) =
+    let place = broken.0 in
+    let here = broken.2 in
+    let inside : place < 2 = omega (arith, here.2.column) in
+    (rw (two, sym here.0) (node_inside place inside), here.1)
+broken_inside m middles cause two (wide node broken) =
+    let here = broken.2 in
+    rw (two, sym here.0) (node_inside broken.0 here.1.node)
+
+-- the records that the first cause names are the model's
+pub IsCauseIn-first : (m : Lists) (cause : Cause) → length m.nodes ≡ 2 → IsFirstCause m 0 text_order cause → IsCauseIn m cause
+IsCauseIn-first m cause two (element number is) = wide_element m number is
+IsCauseIn-first m cause two (matrix b row structure first) = row_inside row (length m.nodes) (subst (λ n. row < 6 * n) structure.nodes first.in_range)
+IsCauseIn-first m cause two (load b middles radii row structure assembled first) = row_inside row (length m.nodes) first.in_range
+IsCauseIn-first m cause two (factor b middles radii loads first before broken) = broken_inside m middles first two broken
+IsCauseIn-first m cause two (solve b middles radii loads columns before factorised breaks) = tt

@@ -1,0 +1,51 @@
+-- Which answers are those of a model's cases.
+use Rattle.std.specs.Prelude.{◌≡◌, ◌⊎◌, ℕ, ◌+◌, ◌*◌, ◌^◌, ◌<◌, List, [], ◌∷◌, length, All, ℤ, unsigned_abs, ⊤}
+use Rattle.model_types.specs.Lists.{Lists}
+use Rattle.model_types.specs.declared.records.Restraint.{Restraint}
+use Rattle.model_types.specs.declared.answers.Bounds.{Bounds}
+use Rattle.model_types.specs.declared.answers.Cause.{Cause}
+use Rattle.model_types.specs.declared.answers.Cause.TheVariants as causes
+use Rattle.model_types.specs.declared.answers.CaseAnswer.{CaseAnswer}
+use Rattle.model_types.specs.declared.answers.CaseAnswer.TheVariants.{Certified, Uncertified}
+use Rattle.report.specs.Report.{load_count}
+
+-- a number of an answer is below 2^90 in size
+abbrev pub IsModest : ℤ → Type 0
+IsModest z = unsigned_abs z < 2 ^ 90
+
+abbrev pub AreModest : List Bounds → Type 0
+AreModest bounds = All (λ b. IsModest b.lo × IsModest b.hi) bounds
+
+-- how many loads the restraints have together
+abbrev pub loads_count : List Restraint → ℕ
+loads_count [] = 0
+loads_count (r ∷ restraints) = load_count r.kind + loads_count restraints
+
+-- the records that a cause names are there
+abbrev pub IsCauseIn : Lists → Cause → Type 0
+IsCauseIn m (causes.WidthElement element) = element.0 < length m.elements
+IsCauseIn m (causes.WidthMatrix node freedom) = (node.0 < length m.nodes) × (freedom < 6)
+IsCauseIn m (causes.Pivot node freedom) = (node.0 < length m.nodes) × (freedom < 6)
+IsCauseIn m (causes.WidthFactor node) = node.0 < length m.nodes
+IsCauseIn m (causes.Margin node freedom) = (node.0 < length m.nodes) × (freedom < 6)
+IsCauseIn m (causes.WidthLoad node freedom) = (node.0 < length m.nodes) × (freedom < 6)
+IsCauseIn m (causes.WidthSolve turn) = ⊤
+IsCauseIn m causes.Turns = ⊤
+IsCauseIn m causes.WidthResidual = ⊤
+IsCauseIn m (causes.State restraint minus) = restraint.0 < length m.restraints
+
+-- a candidate: one number for each row
+pub record IsGuess (m : Lists) (u : List ℤ) : Type 0 where
+  pub one_each : length u ≡ 6 * length m.nodes
+  pub modest : All IsModest u
+
+-- the answer is one of a case of the model: a bound for each row and for each load of a restraint, or a cause
+abbrev pub FitsModel : Lists → CaseAnswer → Type 0
+FitsModel m (Certified u loads states) =
+    (length u ≡ 6 * length m.nodes) × (length loads ≡ loads_count m.restraints) × AreModest u × AreModest loads
+FitsModel m (Uncertified cause guess) = IsCauseIn m cause × ((length guess ≡ 0) ⊎ IsGuess m guess)
+
+-- one answer for each case
+pub record AreAnswersOf (m : Lists) (answers : List CaseAnswer) : Type 0 where
+  pub one_each : length answers ≡ length m.cases
+  pub fit : All (FitsModel m) answers

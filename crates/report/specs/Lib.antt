@@ -1,0 +1,4 @@
+pub mod Fits
+pub mod Report
+pub mod Rounding
+pub mod Words

@@ -1,0 +1,154 @@
+-- The report of an analysis: its lines, word by word. Displacements are written in nanometres and nanoradians, loads in mN
+-- and mN m, each pair rounded outwards.
+use Rattle.std.specs.Prelude.{ℕ, ◌*◌, ◌^◌, ◌==◌, List, [], ◌∷◌, ◌++◌, length, take, drop, map, codes, ℤ, pos, ◌*ℤ◌, if◌then◌else◌, Bool, false, true}
+use Rattle.std.specs.Fmt.{decimal, signed_decimal}
+use Rattle.std.specs.List.{flat_map, slice_index_or}
+use Rattle.flex_num.specs.Division.{floor_of, ceil_of, nearest_of}
+use Rattle.model_types.specs.Lists.{Lists}
+use Rattle.model_types.specs.declared.records.Node.{Node}
+use Rattle.model_types.specs.declared.records.Case.{Case}
+use Rattle.model_types.specs.declared.records.Restraint.{Restraint}
+use Rattle.model_types.specs.declared.records.RestraintKind.{RestraintKind}
+use Rattle.model_types.specs.declared.records.RestraintKind.TheVariants as kinds
+use Rattle.model_types.specs.declared.answers.Bounds.{Bounds}
+use Rattle.model_types.specs.declared.answers.Cause.{Cause}
+use Rattle.model_types.specs.declared.answers.Cause.TheVariants as causes
+use Rattle.model_types.specs.declared.answers.CaseAnswer.{CaseAnswer}
+use Rattle.model_types.specs.declared.answers.CaseAnswer.TheVariants.{Certified, Uncertified}
+use Rattle.text_words.specs.Fields.{line}
+
+abbrev pub Word : Type 0
+Word = List ℕ
+
+-- ---- numbers
+
+-- bounds in a unit that is m / n of theirs, rounded outwards
+abbrev pub printed : ℤ → ℤ → Bounds → Bounds
+printed n m b = record { lo = floor_of (b.lo *ℤ n) m; hi = ceil_of (b.hi *ℤ n) m }
+
+-- the two numbers of a pair
+abbrev pub bounds_words : Bounds → List Word
+bounds_words b = signed_decimal b.lo ∷ signed_decimal b.hi ∷ []
+
+-- the printed pair of bounds in a unit that is m / n of theirs
+abbrev pub pair : ℤ → ℤ → Bounds → List Word
+pair n m b = bounds_words (printed n m b)
+
+-- 2^-56 m or rad in nanometres or nanoradians
+abbrev pub displacement_pair : Bounds → List Word
+displacement_pair = pair (pos (10 ^ 9)) (pos (2 ^ 56))
+
+-- 2^-40 N or N m in mN or mN m
+abbrev pub load_pair : Bounds → List Word
+load_pair = pair (pos 1000) (pos (2 ^ 40))
+
+-- a candidate's displacement, in nanometres or nanoradians, to the nearest
+abbrev pub guess_word : ℤ → Word
+guess_word u = signed_decimal (nearest_of (u *ℤ pos (10 ^ 9)) (pos (2 ^ 56)))
+
+-- ---- a certified case
+
+-- the lines of the nodes, each with the bounds of its six displacements
+abbrev pub node_lines : List Node → List Bounds → List (List Word)
+node_lines [] u = []
+node_lines (node ∷ nodes) u = (codes "node" ∷ node.name ∷ flat_map displacement_pair (take 6 u)) ∷ node_lines nodes (drop 6 u)
+
+-- how many members, and so loads, a restraint has
+abbrev pub load_count : RestraintKind → ℕ
+load_count (kinds.Anchor kt kr) = 6
+load_count (kinds.Linear dx dy dz k) = 1
+load_count (kinds.Twist dx dy dz k) = 1
+
+-- the lines of the restraints, each with the bounds of its loads
+abbrev pub restraint_lines : List Restraint → List Bounds → List (List Word)
+restraint_lines [] loads = []
+restraint_lines (r ∷ restraints) loads =
+    (codes "restraint" ∷ r.name ∷ flat_map load_pair (take (load_count r.kind) loads)) ∷ restraint_lines restraints (drop (load_count r.kind) loads)
+
+-- ---- an uncertified case
+
+-- the name of a freedom
+abbrev pub freedom_word : ℕ → Word
+freedom_word freedom =
+    if freedom == 0 then codes "ux" else if freedom == 1 then codes "uy" else if freedom == 2 then codes "uz" else
+    if freedom == 3 then codes "rx" else if freedom == 4 then codes "ry" else codes "rz"
+
+abbrev pub side_word : Bool → Word
+side_word true = codes "minus"
+side_word false = codes "plus"
+
+abbrev pub node_name : Lists → ℕ → Word
+node_name m n = slice_index_or (map (λ r. r.name) m.nodes) n []
+
+abbrev pub element_name : Lists → ℕ → Word
+element_name m n = slice_index_or (map (λ r. r.name) m.elements) n []
+
+abbrev pub restraint_name : Lists → ℕ → Word
+restraint_name m n = slice_index_or (map (λ r. r.name) m.restraints) n []
+
+-- the words of a cause
+abbrev pub cause_words : Lists → Cause → List Word
+cause_words m (causes.WidthElement element) = codes "width" ∷ codes "element" ∷ element_name m element.0 ∷ []
+cause_words m (causes.WidthMatrix node freedom) = codes "width" ∷ codes "matrix" ∷ node_name m node.0 ∷ freedom_word freedom ∷ []
+cause_words m (causes.Pivot node freedom) = codes "pivot" ∷ node_name m node.0 ∷ freedom_word freedom ∷ []
+cause_words m (causes.WidthFactor node) = codes "width" ∷ codes "factor" ∷ node_name m node.0 ∷ []
+cause_words m (causes.Margin node freedom) = codes "margin" ∷ node_name m node.0 ∷ freedom_word freedom ∷ []
+cause_words m (causes.WidthLoad node freedom) = codes "width" ∷ codes "load" ∷ node_name m node.0 ∷ freedom_word freedom ∷ []
+cause_words m (causes.WidthSolve turn) = codes "width" ∷ codes "solve" ∷ decimal turn ∷ []
+cause_words m causes.Turns = codes "turns" ∷ codes "200" ∷ []
+cause_words m causes.WidthResidual = codes "width" ∷ codes "residual" ∷ []
+cause_words m (causes.State restraint minus) = codes "state" ∷ restraint_name m restraint.0 ∷ side_word minus ∷ []
+
+-- the line of a case that is not certified
+abbrev pub uncertified_words : Lists → Case → Cause → List Word
+uncertified_words m c cause = codes "case" ∷ c.name ∷ codes "uncertified" ∷ cause_words m cause
+
+-- the lines of the nodes, each with the candidate's six displacements
+abbrev pub guess_lines : List Node → List ℤ → List (List Word)
+guess_lines [] u = []
+guess_lines (node ∷ nodes) u = (codes "guess" ∷ node.name ∷ map guess_word (take 6 u)) ∷ guess_lines nodes (drop 6 u)
+
+-- the candidate stands after a contact state that fails, and after no other cause
+abbrev pub candidate_lines : Lists → Cause → List ℤ → List (List Word)
+candidate_lines m (causes.State restraint minus) guess = guess_lines m.nodes guess
+candidate_lines m _ guess = []
+
+-- ---- the report
+
+-- the lines of a case
+abbrev pub answer_lines : Lists → Case → CaseAnswer → List (List Word)
+answer_lines m c (Certified u loads states) =
+    (codes "case" ∷ c.name ∷ codes "certified" ∷ []) ∷ node_lines m.nodes u ++ restraint_lines m.restraints loads
+answer_lines m c (Uncertified cause guess) =
+    uncertified_words m c cause ∷ candidate_lines m cause guess
+
+-- the lines of all cases
+abbrev pub case_lines : Lists → List Case → List CaseAnswer → List (List Word)
+case_lines m [] answers = []
+case_lines m (c ∷ cases) [] = []
+case_lines m (c ∷ cases) (answer ∷ answers) = answer_lines m c answer ++ case_lines m cases answers
+
+-- how many records of each kind the model has
+abbrev pub count_words : Lists → List Word
+count_words m =
+    codes "model" ∷ decimal (length m.nodes) ∷ decimal (length m.elements) ∷ decimal (length m.restraints)
+    ∷ decimal (length m.cases) ∷ decimal (length m.checks) ∷ []
+
+-- the two lines at its head: what it is, and the counts
+abbrev pub head_lines : Lists → List (List Word)
+head_lines m = (codes "pipeflex" ∷ codes "report" ∷ codes "1" ∷ []) ∷ count_words m ∷ []
+
+abbrev pub end_lines : List (List Word)
+end_lines = (codes "end" ∷ []) ∷ []
+
+-- the bytes of the report of a model whose cases have these answers
+abbrev pub report_of : Lists → List CaseAnswer → List ℕ
+report_of m answers = flat_map line (head_lines m ++ case_lines m m.cases answers ++ end_lines)
+
+-- the lines of a case that has a candidate and is not certified yet
+abbrev pub case_candidate_lines : Lists → List ℤ → Case → List (List Word)
+case_candidate_lines m u c = (codes "case" ∷ c.name ∷ codes "candidate" ∷ []) ∷ guess_lines m.nodes u
+
+-- the bytes of the report where each case has this candidate
+abbrev pub candidate_report : Lists → List ℤ → List ℕ
+candidate_report m u = flat_map line (head_lines m ++ flat_map (case_candidate_lines m u) m.cases ++ end_lines)

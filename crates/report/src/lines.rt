@@ -1,0 +1,139 @@
+ghost use Rattle.std.specs.Prelude.{◌≡◌, ◌++◌, All, OnOk, IfOk};
+ghost use Rattle.std.specs.List.{flat_map};
+ghost use Rattle.report.specs.Fits.{AreAnswersOf, FitsModel, IsCauseIn, IsGuess, IsModest};
+ghost use Rattle.report.specs.Report.{answer_lines, candidate_lines, candidate_report, case_candidate_lines, case_lines, count_words, head_lines, report_of, uncertified_words};
+ghost use Rattle.text_words.specs.Fields.{line};
+
+use crate::causes::push_cause;
+use crate::rows::{push_guesses, push_nodes, push_restraints};
+use crate::words::push_word;
+use itoa::Buffer;
+use model_types::{Case, CaseAnswer, Cause, Model, NoMemory};
+use std::alloc::Global;
+use text_words::push_line;
+
+/// The report of a model whose cases have these answers, in order.
+pub fn bytes(alloc: Global, m: &Model, cases: &[CaseAnswer]) -> Result<Vec<u8>, NoMemory>
+    requires answers { AreAnswersOf m.now cases.now }
+    ensures { IfOk result (λ bytes. bytes.items ≡ report_of m.now cases.now) }
+{
+    let mut out = Vec::new(alloc);
+    push_head(&mut out, m)?;
+    push_answers(&mut out, m, cases)?;
+    push_line(&mut out, &[b"end"])?;
+    Ok(out)
+}
+
+/// The report of a model each of whose cases has this candidate, in 2^-56 m or rad, and no certificate yet.
+pub fn candidate_bytes(alloc: Global, m: &Model, u: &[i128]) -> Result<Vec<u8>, NoMemory>
+    requires candidate { IsGuess m.now u.now }
+    ensures { IfOk result (λ bytes. bytes.items ≡ candidate_report m.now u.now) }
+{
+    let mut out = Vec::new(alloc);
+    push_head(&mut out, m)?;
+    push_candidates(&mut out, m, u)?;
+    push_line(&mut out, &[b"end"])?;
+    Ok(out)
+}
+
+/// Writes the two lines at the head.
+fn push_head(out: &mut Vec<u8>, m: &Model) -> Result<(), NoMemory>
+    ensures { OnOk result (out.new.items ≡ out.old.items ++ flat_map line (head_lines m.now)) }
+{
+    push_line(out, &[b"pipeflex", b"report", b"1"])?;
+    push_counts(out, m)
+}
+
+fn push_counts(out: &mut Vec<u8>, m: &Model) -> Result<(), NoMemory>
+    ensures { OnOk result (out.new.items ≡ out.old.items ++ line (count_words m.now)) }
+{
+    let (mut nodes, mut elements, mut restraints) = (Buffer::new(), Buffer::new(), Buffer::new());
+    let (mut cases, mut checks) = (Buffer::new(), Buffer::new());
+    let nodes = nodes.format(m.nodes().len()).as_bytes();
+    let elements = elements.format(m.elements().len()).as_bytes();
+    let restraints = restraints.format(m.restraints().len()).as_bytes();
+    let cases = cases.format(m.cases().len()).as_bytes();
+    let checks = checks.format(m.checks().len()).as_bytes();
+    push_line(out, &[b"model", nodes, elements, restraints, cases, checks])
+}
+
+fn push_answers(out: &mut Vec<u8>, m: &Model, answers: &[CaseAnswer]) -> Result<(), NoMemory>
+    requires { AreAnswersOf m.now answers.now }
+    ensures { OnOk result (out.new.items ≡ out.old.items ++ flat_map line (case_lines m.now m.now.cases answers.now)) }
+{
+    let cases = m.cases();
+    for (i, case) in cases.iter().enumerate() {
+        push_answer(out, m, case, &answers[i])?;
+    }
+    Ok(())
+}
+
+/// Writes the lines of a case.
+fn push_answer(
+    out: &mut Vec<u8>,
+    m: &Model,
+    case: &Case,
+    answer: &CaseAnswer,
+) -> Result<(), NoMemory>
+    requires { FitsModel m.now answer.now }
+    ensures { OnOk result (out.new.items ≡ out.old.items ++ flat_map line (answer_lines m.now case.now answer.now)) }
+{
+    match answer {
+        CaseAnswer::Certified { u, loads, .. } => {
+            push_line(out, &[b"case", case.name.bytes(), b"certified"])?;
+            push_nodes(out, m.nodes(), u.as_slice())?;
+            push_restraints(out, m.restraints(), loads.as_slice())?;
+        }
+        CaseAnswer::Uncertified { cause, guess } => {
+            push_uncertified(out, m, case, cause)?;
+            push_candidate(out, m, cause, guess.as_slice())?;
+        }
+    }
+    Ok(())
+}
+
+/// Writes the line of a case that is not certified.
+fn push_uncertified(
+    out: &mut Vec<u8>,
+    m: &Model,
+    case: &Case,
+    cause: &Cause,
+) -> Result<(), NoMemory>
+    requires { IsCauseIn m.now cause.now }
+    ensures { OnOk result (out.new.items ≡ out.old.items ++ line (uncertified_words m.now case.now cause.now)) }
+{
+    out.extend_from_slice(b"case")?;
+    push_word(out, case.name.bytes())?;
+    push_word(out, b"uncertified")?;
+    push_cause(out, m, cause)?;
+    out.push(b'\n')?;
+    Ok(())
+}
+
+/// Writes the candidate of a case whose contact state fails.
+fn push_candidate(
+    out: &mut Vec<u8>,
+    m: &Model,
+    cause: &Cause,
+    guess: &[i128],
+) -> Result<(), NoMemory>
+    requires { All IsModest guess.now }
+    ensures { OnOk result (out.new.items ≡ out.old.items ++ flat_map line (candidate_lines m.now cause.now guess.now)) }
+{
+    if let Cause::State { .. } = cause {
+        push_guesses(out, m.nodes(), guess)?;
+    }
+    Ok(())
+}
+
+fn push_candidates(out: &mut Vec<u8>, m: &Model, u: &[i128]) -> Result<(), NoMemory>
+    requires { IsGuess m.now u.now }
+    ensures { OnOk result (out.new.items ≡ out.old.items ++ flat_map line (flat_map (case_candidate_lines m.now u.now) m.now.cases)) }
+{
+    let cases = m.cases();
+    for case in cases {
+        push_line(out, &[b"case", case.name.bytes(), b"candidate"])?;
+        push_guesses(out, m.nodes(), u)?;
+    }
+    Ok(())
+}

@@ -1,0 +1,50 @@
+ghost use Rattle.std.specs.Prelude.{◌≡◌, ◌*ℤ◌};
+ghost use Rattle.flex_num.specs.Division.{ceil_of, floor_of, nearest_of};
+ghost use Rattle.report.specs.Fits.{IsModest};
+ghost use Rattle.report.specs.Rounding.{IsScale, PrintedHolds};
+
+use flex_num::{ceil_div, floor_div, nearest_div};
+
+/// Nanometres and nanoradians in a metre and a radian.
+pub(crate) const NANO: i128 = 1_000_000_000;
+
+/// Millinewtons in a newton.
+pub(crate) const MILLI: i128 = 1_000;
+
+/// Units of displacement, 2^-56 m and rad, in a metre and a radian.
+pub(crate) const DISPLACEMENT_UNITS: i128 = 1 << 56;
+
+/// Units of load, 2^-40 N and N m, in a newton and a newton metre.
+pub(crate) const LOAD_UNITS: i128 = 1 << 40;
+
+/// `z * n / m` rounded down.
+pub(crate) fn rounded_down(z: i128, n: i128, m: i128) -> i128
+    requires modest { IsModest z }
+    requires scale { IsScale n m }
+    ensures { result ≡ floor_of (z *ℤ n) m }
+{
+    floor_div(z * n, m)
+}
+
+/// `z * n / m` rounded up.
+pub(crate) fn rounded_up(z: i128, n: i128, m: i128) -> i128
+    requires modest { IsModest z }
+    requires scale { IsScale n m }
+    ensures { result ≡ ceil_of (z *ℤ n) m }
+{
+    ceil_div(z * n, m)
+}
+
+/// `z * n / m` rounded to the nearest.
+pub(crate) fn rounded(z: i128, n: i128, m: i128) -> i128
+    requires modest { IsModest z }
+    requires scale { IsScale n m }
+    ensures { result ≡ nearest_of (z *ℤ n) m }
+{
+    nearest_div(z * n, m)
+}
+
+/// What rounding outwards keeps: a number within its bounds is, in the unit of the report, within the printed pair.
+pub fn printed_pairs_hold()
+    ensures { PrintedHolds }
+{}

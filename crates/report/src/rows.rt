@@ -1,0 +1,155 @@
+ghost use Rattle.std.specs.Prelude.{◌≡◌, ◌*◌, ◌∷◌, ◌++◌, codes, map, length, All, OnOk};
+ghost use Rattle.std.specs.List.{flat_map};
+ghost use Rattle.report.specs.Fits.{AreModest, IsModest, loads_count};
+ghost use Rattle.report.specs.Report.{guess_lines, guess_word, load_count, node_lines, pair, restraint_lines};
+ghost use Rattle.report.specs.Rounding.{IsScale};
+ghost use Rattle.report.specs.Words.{spaced};
+ghost use Rattle.text_words.specs.Fields.{line};
+
+use crate::rounding::{
+    DISPLACEMENT_UNITS, LOAD_UNITS, MILLI, NANO, rounded, rounded_down, rounded_up,
+};
+use crate::words::{push_number, push_word};
+use model_types::{Bounds, NoMemory, Node, Restraint, RestraintKind};
+
+/// Freedoms of a node.
+const FREEDOMS: usize = 6;
+
+/// Writes a line for each node: `node`, its name and the bounds of its six displacements, of which `u` has six for each.
+pub(crate) fn push_nodes(out: &mut Vec<u8>, nodes: &[Node], u: &[Bounds]) -> Result<(), NoMemory>
+    requires one_each { length u.now ≡ 6 * length nodes.now }
+    requires modest { AreModest u.now }
+    ensures { OnOk result (out.new.items ≡ out.old.items ++ flat_map line (node_lines nodes.now u.now)) }
+{
+    let mut rest = u;
+    for node in nodes {
+        let (row, after) = rest.split_at(FREEDOMS);
+        push_row(
+            out,
+            b"node",
+            node.name.bytes(),
+            row,
+            NANO,
+            DISPLACEMENT_UNITS,
+        )?;
+        rest = after;
+    }
+    Ok(())
+}
+
+/// Writes a line for each restraint: `restraint`, its name and the bounds of its loads.
+pub(crate) fn push_restraints(
+    out: &mut Vec<u8>,
+    restraints: &[Restraint],
+    loads: &[Bounds],
+) -> Result<(), NoMemory>
+    requires one_each { length loads.now ≡ loads_count restraints.now }
+    requires modest { AreModest loads.now }
+    ensures { OnOk result (out.new.items ≡ out.old.items ++ flat_map line (restraint_lines restraints.now loads.now)) }
+{
+    let mut rest = loads;
+    for restraint in restraints {
+        let count = load_count(&restraint.kind);
+        let (row, after) = rest.split_at(count);
+        push_row(
+            out,
+            b"restraint",
+            restraint.name.bytes(),
+            row,
+            MILLI,
+            LOAD_UNITS,
+        )?;
+        rest = after;
+    }
+    Ok(())
+}
+
+/// How many members a restraint has.
+pub(crate) fn load_count(kind: &RestraintKind) -> usize
+    ensures { result ≡ load_count kind.now }
+{
+    match kind {
+        RestraintKind::Anchor { .. } => 6,
+        RestraintKind::Linear { .. } | RestraintKind::Twist { .. } => 1,
+    }
+}
+
+/// Writes a line for each node: `guess`, its name and its six displacements, to the nearest.
+pub(crate) fn push_guesses(out: &mut Vec<u8>, nodes: &[Node], u: &[i128]) -> Result<(), NoMemory>
+    requires { All IsModest u.now }
+    ensures { OnOk result (out.new.items ≡ out.old.items ++ flat_map line (guess_lines nodes.now u.now)) }
+{
+    let mut rest = u;
+    for node in nodes {
+        let count = FREEDOMS.min(rest.len());
+        let (row, after) = rest.split_at(count);
+        push_guess(out, node.name.bytes(), row)?;
+        rest = after;
+    }
+    Ok(())
+}
+
+/// Writes the line of a node's displacements.
+fn push_guess(out: &mut Vec<u8>, name: &[u8], u: &[i128]) -> Result<(), NoMemory>
+    requires { All IsModest u.now }
+    ensures { OnOk result (out.new.items ≡ out.old.items ++ line (codes "guess" ∷ name.now ∷ map guess_word u.now)) }
+{
+    out.extend_from_slice(b"guess")?;
+    push_word(out, name)?;
+    push_guess_words(out, u)?;
+    out.push(b'\n')?;
+    Ok(())
+}
+
+fn push_guess_words(out: &mut Vec<u8>, u: &[i128]) -> Result<(), NoMemory>
+    requires { All IsModest u.now }
+    ensures { OnOk result (out.new.items ≡ out.old.items ++ spaced (map guess_word u.now)) }
+{
+    for z in u {
+        push_number(out, rounded(*z, NANO, DISPLACEMENT_UNITS))?;
+    }
+    Ok(())
+}
+
+/// Writes a line: its first word, a name, and each pair of bounds in a unit that is `m / n` of theirs.
+fn push_row(
+    out: &mut Vec<u8>,
+    first: &[u8],
+    name: &[u8],
+    bounds: &[Bounds],
+    n: i128,
+    m: i128,
+) -> Result<(), NoMemory>
+    requires modest { AreModest bounds.now }
+    requires scale { IsScale n m }
+    ensures { OnOk result (out.new.items ≡ out.old.items ++ line (first.now ∷ name.now ∷ flat_map (pair n m) bounds.now)) }
+{
+    out.extend_from_slice(first)?;
+    push_word(out, name)?;
+    push_pairs(out, bounds, n, m)?;
+    out.push(b'\n')?;
+    Ok(())
+}
+
+fn push_pairs(out: &mut Vec<u8>, bounds: &[Bounds], n: i128, m: i128) -> Result<(), NoMemory>
+    requires modest { AreModest bounds.now }
+    requires scale { IsScale n m }
+    ensures { OnOk result (out.new.items ≡ out.old.items ++ spaced (flat_map (pair n m) bounds.now)) }
+{
+    for pair in bounds {
+        push_pair(out, pair, n, m)?;
+    }
+    Ok(())
+}
+
+/// Writes bounds in a unit that is `m / n` of theirs, rounded outwards.
+fn push_pair(out: &mut Vec<u8>, bounds: &Bounds, n: i128, m: i128) -> Result<(), NoMemory>
+    requires lo { IsModest bounds.now.lo }
+    requires hi { IsModest bounds.now.hi }
+    requires scale { IsScale n m }
+    ensures { OnOk result (out.new.items ≡ out.old.items ++ spaced (pair n m bounds.now)) }
+{
+    push_number(out, rounded_down(bounds.lo, n, m))?;
+    push_number(out, rounded_up(bounds.hi, n, m))?;
+    Ok(())
+}
