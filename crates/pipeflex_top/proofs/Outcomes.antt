@@ -1,15 +1,14 @@
 -- What the outcome of a case of a model with two nodes says of the model's report.
-use Rattle.std.proofs.Common.{◌≡◌, ℕ, zero, suc, ◌+◌, ◌*◌, ◌/◌, ◌%◌, ◌<◌, ◌≤◌, ◌^◌, List, [], ◌∷◌, ◌++◌, length, Result, Ok, Err, ℤ, pos, unsigned_abs, refl, sym, ap, subst, ◌∙◌, arith}
-use Rattle.std.specs.Prelude.{slice_index, slice_index_or, Contains}
+use Rattle.std.proofs.Common.{◌≡◌, ℕ, zero, suc, ◌*◌, ◌/◌, ◌%◌, ◌<◌, List, [], ◌∷◌, ◌++◌, length, Result, Ok, Err, pos, refl, sym, subst, arith}
+use Rattle.std.specs.Prelude.{slice_index, slice_index_or}
 use Rattle.std.specs.List.{flat_map}
-use Rattle.std.proofs.lemmas.List.Elements.{All-weaker}
-use Rattle.case_run.specs.Candidate.{IsCaseCandidate, IsFirstCause, element, matrix, load, factor, solve, IsBreakdownCause, pivot, wide}
+use Rattle.case_run.specs.Candidate.{IsFirstCause, element, matrix, load, factor, solve, IsBreakdownCause, pivot, wide}
 use Rattle.factor_data.specs.Order.{IsOrder}
 use Rattle.flex_interval.specs.declared.fault.Wide.{Wide}
 use Rattle.member_set.specs.declared.members.Member.{Member}
 use Rattle.model_types.specs.Lists.{Lists}
 use Rattle.model_types.specs.declared.answers.Cause.{Cause}
-use Rattle.report.specs.Fits.{IsCauseIn, IsGuess, IsModest}
+use Rattle.report.specs.Fits.{IsCauseIn}
 use Rattle.structure.specs.Anchors.{restraint_members}
 use Rattle.structure.specs.Elements.{element_at, members_of}
 use Rattle.structure.specs.Structure.{Members, and_then, element_members, model_members, with_element}

@@ -13,7 +13,7 @@ use Rattle.model_types.specs.Lists.{Lists}
 use Rattle.pipeflex_top.specs.declared.commands.Command.{Command}
 use Rattle.pipeflex_top.specs.declared.commands.Command.TheVariants.{Members, Echo, Analyse}
 use Rattle.pipeflex_top.specs.Enclosure.{PrintsEnclosures}
-use Rattle.pipeflex_top.specs.Run.{Answers, Ask, AskAnalysis, plain, stated, Asks, Decides, HasForm, IsAccepted, IsAnswer, IsOutput, IsRefusedFor, faulty, unbuilt, ReadsText, Takes, ending_of}
+use Rattle.pipeflex_top.specs.Run.{Answers, Ask, AskAnalysis, plain, stated, Asks, Decides, HasForm, IsAnswer, IsOutput, IsRefusedFor, faulty, unbuilt, ReadsText, Takes, ending_of}
 
 -- the bytes that were taken are the text up to the byte past the limit, so what is left follows them
 pub ReadsText-taken : (left after : Option (List ℕ)) (bytes : List ℕ) → Consumes left after bytes → IfSome left (λ text. bytes ≡ take 4194305 text) → ReadsText left after

@@ -1,5 +1,5 @@
 -- A printed pair holds each number that its bounds hold; and a modest number times a scale fits.
-use Rattle.std.proofs.Common.{◌≡◌, ◌^◌, ℤ, ℕ, pos, ◌*ℤ◌, neg_ℤ, ◌≤ℤ◌, FitsSigned, arith}
+use Rattle.std.proofs.Common.{◌≡◌, ◌^◌, ℤ, pos, ◌*ℤ◌, neg_ℤ, ◌≤ℤ◌, FitsSigned, arith}
 use Rattle.std.proofs.lemmas.Int.{ints}
 use Rattle.std.specs.Int.{w128}
 use Rattle.int_laws.proofs.Sums.{int_sums}

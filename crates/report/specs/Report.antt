@@ -1,6 +1,6 @@
 -- The report of an analysis: its lines, word by word. Displacements are written in nanometres and nanoradians, loads in mN
 -- and mN m, each pair rounded outwards.
-use Rattle.std.specs.Prelude.{ℕ, ◌*◌, ◌^◌, ◌==◌, List, [], ◌∷◌, ◌++◌, length, take, drop, map, codes, ℤ, pos, ◌*ℤ◌, if◌then◌else◌, Bool, false, true}
+use Rattle.std.specs.Prelude.{ℕ, ◌^◌, ◌==◌, List, [], ◌∷◌, ◌++◌, length, take, drop, map, codes, ℤ, pos, ◌*ℤ◌, if◌then◌else◌, Bool, false, true}
 use Rattle.std.specs.Fmt.{decimal, signed_decimal}
 use Rattle.std.specs.List.{flat_map, slice_index_or}
 use Rattle.flex_num.specs.Division.{floor_of, ceil_of, nearest_of}

@@ -50,16 +50,16 @@ pub(crate) fn push_restraints(
     let mut rest = loads;
     for restraint in restraints {
         let count = load_count(&restraint.kind);
-        let (row, after) = rest.split_at(count);
+        let (own, others) = rest.split_at(count);
         push_row(
             out,
             b"restraint",
             restraint.name.bytes(),
-            row,
+            own,
             MILLI,
             LOAD_UNITS,
         )?;
-        rest = after;
+        rest = others;
     }
     Ok(())
 }

@@ -31,6 +31,8 @@ end
 const USAGE: &str =
     "usage: pipeflex analyse [--workers N] | members | echo | generate M | summary M [--workers N]\n";
 
+const UNBUILT: &str = "refused 17 line 1 unbuilt\n";
+
 // What the words and the text are answered with: the status, the output and the message.
 fn check<R: Threads + Sync + Abort>(
     rt: &R,
@@ -65,13 +67,25 @@ fn check<R: Threads + Sync + Abort>(
 
 #[test]
 fn answers_words(rt: HostRuntime) -> Result<(), Fail> {
-    let words: [(&[&str], Status, &str, &str); 8] = [
+    let words: [(&[&str], Status, &str, &str); 15] = [
         (&["members"], Status::Done, TABLE, ""),
         (&["echo"], Status::Done, STRAIGHT, ""),
         (&[], Status::Usage, "", USAGE),
         (&["member"], Status::Usage, "", USAGE),
         (&["members", "echo"], Status::Usage, "", USAGE),
-        (&["analyse"], Status::Usage, "", USAGE),
+        (&["analyse"], Status::Refused, "", UNBUILT),
+        (
+            &["analyse", "--workers", "64"],
+            Status::Refused,
+            "",
+            UNBUILT,
+        ),
+        (&["analyse", "--workers", "0"], Status::Usage, "", USAGE),
+        (&["analyse", "--workers", "65"], Status::Usage, "", USAGE),
+        (&["analyse", "--workers", "04"], Status::Usage, "", USAGE),
+        (&["analyse", "--workers", "-4"], Status::Usage, "", USAGE),
+        (&["analyse", "--workers"], Status::Usage, "", USAGE),
+        (&["members", "--workers", "4"], Status::Usage, "", USAGE),
         (&["generate", "1"], Status::Usage, "", USAGE),
         (&["summary", "1"], Status::Usage, "", USAGE),
     ];
@@ -209,6 +223,78 @@ straight p a b s";
         "",
     )?;
     check(&rt, rt.alloc(), &["echo"], loose, Status::Done, slanted, "")
+}
+
+// A cantilever: 1 m of pipe of 100 mm by 10 mm with E of 200,000 MPa, fixed at a, and F = 1,000 N down at b. With
+// I = pi (100^4 - 80^4) / 64 = 2,898,119.2 mm^4 the textbook has F L^3 / 3 E I = 575,085.6 nm and
+// F L^2 / 2 E I = 862,628.4 nrad. The anchor, of K = 10^10 N/m and N m/rad, adds its movement F / K = 100 nm and its rotation
+// F L / K = 100 nrad, which lowers the tip by 100 nm more: 575,285.6 nm and 862,728.4 nrad together.
+const CANTILEVER: &str = "\
+anchor A a - -
+case tip 0 0 0 0 0 0
+force tip b 0 0 -1000000 0 0 0
+";
+
+#[test]
+fn analyses_one_straight(rt: HostRuntime) -> Result<(), Fail> {
+    for (lines, cases) in [
+        (
+            CANTILEVER,
+            "1 1 0\ncase tip candidate\nguess a 0 0 -100 0 100 0\nguess b 0 0 -575286 0 862728 0\n",
+        ),
+        (
+            "anchor A a - -\nanchor B b - -\ncase rest 0 0 0 0 0 0\n",
+            "2 1 0\ncase rest candidate\nguess a 0 0 0 0 0 0\nguess b 0 0 0 0 0 0\n",
+        ),
+        (
+            "anchor A a 2000000000000 -\ncase rest 0 0 0 0 0 0\n",
+            "1 1 0\ncase rest uncertified width matrix a ux\n",
+        ),
+        (
+            "anchor A a - -\ncase tip 0 0 0 0 0 0\nforce tip b 0 0 1000000000000 0 0 0\n",
+            "1 1 0\ncase tip uncertified width load b uz\n",
+        ),
+    ] {
+        let text = format!(in rt.alloc(); "{STRAIGHT}{lines}")?;
+        let report = format!(in rt.alloc(); "pipeflex report 1\nmodel 2 1 {cases}end\n")?;
+        let (text, report) = (text.as_str(), report.as_str());
+        let words: [&[&str]; 2] = [&["analyse"], &["analyse", "--workers", "7"]];
+        for words in words {
+            check(
+                &rt,
+                rt.alloc(),
+                words,
+                text,
+                Status::Uncertified,
+                report,
+                "",
+            )?;
+        }
+    }
+    Ok(())
+}
+
+#[test]
+fn refuses_to_analyse(rt: HostRuntime) -> Result<(), Fail> {
+    for lines in [
+        "node b 1000000 0 0\nstraight p a b s\nanchor A a - -\n",
+        "node b 1000000 0 0\nstraight p a b s\ncase rest 0 0 0 0 0 0\n",
+        "node b 1000000 1000000 0\nstraight p a b s\nanchor A a - -\ncase rest 0 0 0 0 0 0\n",
+        "node b 1000000 0 0\nanchor A a - -\ncase rest 0 0 0 0 0 0\n",
+        "node b 1000000 0 0\nstraight p a b s\nlinear A a 1 0 0 -\ncase rest 0 0 0 0 0 0\n",
+    ] {
+        let text = format!(in rt.alloc(); "{HEAD}{lines}")?;
+        check(
+            &rt,
+            rt.alloc(),
+            &["analyse"],
+            text.as_str(),
+            Status::Refused,
+            "",
+            UNBUILT,
+        )?;
+    }
+    Ok(())
 }
 
 #[test]

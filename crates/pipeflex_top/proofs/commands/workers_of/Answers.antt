@@ -8,20 +8,20 @@ returns-in-Ok c =
     let fits : FitsSigned w64 c.in-Ok.workers = search rules in
     let read = to_z-of_z fits in
     λ workers. (
-        λ some.
-            let found = (c.within_range.ensures workers).0 some in
-            let form : c.args.word.now ≡ decimal workers = sym c.as_bytes.ensures.value ∙ c.in-Ok.ensures.form.form ∙ ap signed_decimal (sym read ∙ found.0) in
-            (form, found.1, found.2),
-        λ stated.
-            let is : IsNumber c.as_bytes.result.now (pos workers) = record { form = c.as_bytes.ensures.value ∙ stated.0; short = omega (arith, stated.2) } in
-            let same : c.in-Ok.workers ≡ pos workers = cc (c.in-Ok.is, c.number.ensures.only (pos workers) is) in
-            (c.within_range.ensures workers).1 (read ∙ same, stated.1, stated.2)
-      )
+      λ some.
+          let found = (c.within_range.ensures workers).0 some in
+          let form : c.args.word.now ≡ decimal workers = sym c.as_bytes.ensures.value ∙ c.in-Ok.ensures.form.form ∙ ap signed_decimal (sym read ∙ found.0) in
+          (form, found.1, found.2),
+      λ stated.
+          let is : IsNumber c.as_bytes.result.now (pos workers) = record { form = c.as_bytes.ensures.value ∙ stated.0; short = omega (arith, stated.2) } in
+          let same : c.in-Ok.workers ≡ pos workers = cc (c.in-Ok.is, c.number.ensures.only (pos workers) is) in
+          (c.within_range.ensures workers).1 (read ∙ same, stated.1, stated.2),
+    )
 
 pub returns-in-Err : goal.returns-in-Err
 returns-in-Err c = λ workers. (
-    λ some. absurd (cc some),
-    λ stated.
-        let is : IsNumber c.as_bytes.result.now (pos workers) = record { form = c.as_bytes.ensures.value ∙ stated.0; short = omega (arith, stated.2) } in
-        absurd (cc (c.in-Err.is, c.number.ensures.only (pos workers) is))
-  )
+  λ some. absurd (cc some),
+  λ stated.
+      let is : IsNumber c.as_bytes.result.now (pos workers) = record { form = c.as_bytes.ensures.value ∙ stated.0; short = omega (arith, stated.2) } in
+      absurd (cc (c.in-Err.is, c.number.ensures.only (pos workers) is)),
+)

@@ -1,4 +1,4 @@
-use Rattle.std.proofs.Common.{◌≡◌, ◌<◌, ◌++◌, length, subst, ◌∙◌, sym}
+use Rattle.std.proofs.Common.{◌++◌}
 use Rattle.std.specs.List.{flat_map}
 use Rattle.text_words.specs.Fields.{line}
 use Rattle.report.specs.Report.{case_candidate_lines}
