@@ -2,7 +2,7 @@
 use Rattle.std.proofs.Common.{◌≡◌, ℕ, zero, suc, ◌*◌, ◌/◌, ◌%◌, ◌<◌, List, [], ◌∷◌, ◌++◌, length, Result, Ok, Err, pos, refl, sym, subst, arith}
 use Rattle.std.specs.Prelude.{slice_index, slice_index_or}
 use Rattle.std.specs.List.{flat_map}
-use Rattle.case_run.specs.Candidate.{IsFirstCause, element, matrix, load, factor, solve, IsBreakdownCause, pivot, wide}
+use Rattle.case_run.specs.Candidate.{IsFirstCause, before_structure, before_matrices, before_loads, before_factor, before_candidate, IsElementCause, first_element, IsMatrixCause, matrix_row, IsLoadCause, load_row, IsBreakdownCause, pivot, wide, IsSolveCause, refinement}
 use Rattle.factor_data.specs.Order.{IsOrder}
 use Rattle.flex_interval.specs.declared.fault.Wide.{Wide}
 use Rattle.member_set.specs.declared.members.Member.{Member}
@@ -11,7 +11,9 @@ use Rattle.model_types.specs.declared.answers.Cause.{Cause}
 use Rattle.report.specs.Fits.{IsCauseIn}
 use Rattle.structure.specs.Anchors.{restraint_members}
 use Rattle.structure.specs.Elements.{element_at, members_of}
-use Rattle.structure.specs.Structure.{Members, and_then, element_members, model_members, with_element}
+use Rattle.member_set.specs.declared.members.Built.{Built}
+use Rattle.solve.specs.Refinement.{Problem}
+use Rattle.structure.specs.Structure.{IsStructureOf, Members, and_then, element_members, model_members, with_element}
 use Rattle.pipeflex_top.specs.Analysis.{text_order}
 use Rattle.sym_blocks.specs.Matrix.{Matrix}
 
@@ -78,10 +80,22 @@ broken_inside m middles cause two (wide node broken) =
     let here = broken.2 in
     rw (two, sym here.0) (node_inside broken.0 here.1.node)
 
+element_inside : (m : Lists) (cause : Cause) → IsElementCause m cause → IsCauseIn m cause
+element_inside m cause (first_element number is) = wide_element m number is
+
+matrix_inside : (m : Lists) (b : Built) (cause : Cause) → IsStructureOf m b → IsMatrixCause b cause → IsCauseIn m cause
+matrix_inside m b cause structure (matrix_row row first) = row_inside row (length m.nodes) (subst (λ n. row < 6 * n) structure.nodes first.in_range)
+
+load_inside : (m : Lists) (case : ℕ) (cause : Cause) → IsLoadCause m case cause → IsCauseIn m cause
+load_inside m case cause (load_row row first) = row_inside row (length m.nodes) first.in_range
+
+solve_inside : (m : Lists) (p : Problem) (cause : Cause) → IsSolveCause p cause → IsCauseIn m cause
+solve_inside m p cause (refinement breaks) = tt
+
 -- the records that the first cause names are the model's
 pub IsCauseIn-first : (m : Lists) (cause : Cause) → length m.nodes ≡ 2 → IsFirstCause m 0 text_order cause → IsCauseIn m cause
-IsCauseIn-first m cause two (element number is) = wide_element m number is
-IsCauseIn-first m cause two (matrix b row structure first) = row_inside row (length m.nodes) (subst (λ n. row < 6 * n) structure.nodes first.in_range)
-IsCauseIn-first m cause two (load b middles radii row structure assembled first) = row_inside row (length m.nodes) first.in_range
-IsCauseIn-first m cause two (factor b middles radii loads first before broken) = broken_inside m middles first two broken
-IsCauseIn-first m cause two (solve b middles radii loads columns before factorised breaks) = tt
+IsCauseIn-first m cause two (before_structure wide) = element_inside m cause wide
+IsCauseIn-first m cause two (before_matrices b structure wide) = matrix_inside m b cause structure wide
+IsCauseIn-first m cause two (before_loads b middles radii structure assembled wide) = load_inside m 0 cause wide
+IsCauseIn-first m cause two (before_factor b middles radii loads before broken) = broken_inside m middles cause two broken
+IsCauseIn-first m cause two (before_candidate b middles radii loads columns before factorised breaks) = solve_inside m _ cause breaks
