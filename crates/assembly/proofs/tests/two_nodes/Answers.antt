@@ -57,22 +57,20 @@ not_at_second members are (suc (suc k)) inside touch = absurd (omega arith)
 
 touching : (members : List Member) → AreTwo members → (node k : ℕ) → node < 2 →
     Contains (get_or lists node []) k ↔ ((k < length members) × Touches (get_or members k no_member) node)
-touching members are zero k inside =
-    (
-      λ found.
+touching members are zero k inside = (
+  λ found.
       let here : k < 2 = omega (arith, found.2, pair_read found.0 k found.1, found.1) in
       (omega (arith, here, are.two), inl (are.first k here)),
-      λ touch. (k, omega (arith, are.two, touch.0), pair_read k k (omega (arith, are.two, touch.0))),
-    )
-touching members are (suc zero) k inside =
-    (
-      λ found.
+  λ touch. (k, omega (arith, are.two, touch.0), pair_read k k (omega (arith, are.two, touch.0))),
+)
+touching members are (suc zero) k inside = (
+  λ found.
       let none : 0 ≡ k = sym (one_read found.0 k found.1) ∙ found.2 in
       (omega (arith, none, are.two), subst (λ (n : ℕ). Touches (get_or members n no_member) 1) none (inr are.spring)),
-      λ touch.
+  λ touch.
       let none = not_at_second members are k (omega (arith, are.two, touch.0)) touch.1 in
       (0, omega arith, sym none),
-    )
+)
 touching members are (suc (suc node)) k inside = absurd (omega arith)
 
 two_built : (b : Built) → b.at ≡ lists → AreTwo b.members → IsBuilt b

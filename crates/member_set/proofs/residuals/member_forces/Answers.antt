@@ -1,12 +1,12 @@
-use Rattle.std.proofs.Common.{◌≡◌, ℕ, ◌+◌, ◌<◌, ◌⊎◌, inl, inr, length, sym, refl, ap, arith, subst, ◌∙◌, slice_set, get_or-set_same, get_or-set_other, Ok, Err}
+use Rattle.std.proofs.Common.{◌≡◌, ℕ, ◌<◌, ◌⊎◌, inl, inr, length, sym, refl, ap, arith, subst, ◌∙◌, slice_set, get_or-set_same, get_or-set_other, Ok, Err}
 use Rattle.std.proofs.Math.ListN.{length-set}
 use Rattle.flex_interval.specs.Fraction.{Within}
 use Rattle.std.proofs.lemmas.Result.{err_from_is_err_and}
 use Rattle.std.proofs.lemmas.List.{get_or_read_under}
 use Rattle.flex_interval.specs.Ends.{Ends}
-use Rattle.member_set.specs.Members.{nothing, no_member, no_law, member_of, law_of, force_of}
+use Rattle.member_set.specs.Members.{nothing, no_member, no_law, force_of}
 use Rattle.member_set.specs.Realisation.{IsMemberWithin, displaced, force_in, force_fraction}
-use Rattle.member_set.specs.Interval.{Outcome, forces_of}
+use Rattle.member_set.specs.Interval.{forces_of}
 use Rattle.member_set.proofs.Touching.{ok_of, residual-without_force}
 use Rattle.member_set.proofs.residuals.member_forces.Goals as goal
 
