@@ -28,13 +28,14 @@ near_of e exact unit v w floor is within =
 pub filled_from : (b : Built) (km rd km_new rd_new : Matrix) (row col : ℕ) (v w : ℤ) (e : Ends) → upper_entry b row col ≡ Ok e →
     IsFloor (e.lo +ℤ e.hi) (pos 2) v → v ≡ middle_of e → w ≡ radius_of e →
     ((laws : List Law) (loads : List Ends) (r : Realisation) → IsRealisation b laws loads r → Within e (fraction (exact_entry r row col) (entry_unit r.denominator))) →
-    PutsAt km km_new row col v → PutsAt rd rd_new row col w → IsFilled b km_new rd_new row col
-filled_from b km rd km_new rd_new row col v w e is floor middle radius within puts puts_too =
+    pos 0 ≤ℤ w → PutsAt km km_new row col v → PutsAt rd rd_new row col w → IsFilled b km_new rd_new row col
+filled_from b km rd km_new rd_new row col v w e is floor middle radius within not_negative puts puts_too =
     record {
       are = record { enclosure = e; value = is; middle_is = puts.place ∙ middle; radius_is = puts_too.place ∙ radius };
       near = λ laws loads r real.
           rw (puts.place, puts_too.place)
           (near_of e (exact_entry r row col) (entry_unit r.denominator) v w floor (radius ∙ ap (λ (z : ℤ). e.hi -ℤ z) (sym middle)) (within laws loads r real));
+      not_negative = rw puts_too.place not_negative;
     }
 
 -- the same entries are filled
@@ -44,6 +45,7 @@ moved b km rd km_new rd_new i j same same_too was =
     record {
       are = record { enclosure = was.are.enclosure; value = was.are.value; middle_is = same ∙ was.are.middle_is; radius_is = same_too ∙ was.are.radius_is };
       near = rw (same, same_too) was.near;
+      not_negative = rw same_too was.not_negative;
     }
 
 pub keeps_from : (b : Built) (km rd km_new rd_new : Matrix) (row col : ℕ) (v w : ℤ) → row ≤ col →

@@ -17,7 +17,7 @@ use Rattle.int_laws.specs.Sums.{sum_below}
 use Rattle.int_laws.proofs.Sums.{int_sums}
 use Rattle.int_laws.proofs.Products.{zero-mul, mul_comm, mul_swap}
 use Rattle.int_laws.proofs.SumLaws.{sum_below-zero, sum_below-same}
-use Rattle.std.proofs.Common.{ℤ, pos, ◌*ℤ◌}
+use Rattle.std.proofs.Common.{ℤ, pos, ◌*ℤ◌, ◌≤ℤ◌}
 use Rattle.flex_interval.specs.Ends.{Ends}
 use Rattle.member_set.specs.declared.members.Law.{Law}
 use Rattle.member_set.specs.Realisation.{Realisation, IsRealisation}
@@ -150,6 +150,7 @@ filled_all b built km rd middles radii pattern pattern_too i j inside filled =
           record {
             are = record { enclosure = nothing; value = outside_value b built i j (omega arith) apart; middle_is = none; radius_is = none_too };
             near = λ laws loads r real. rw (none, none_too, exact_zero b built laws loads r real i j (omega arith) apart) (near_zero (entry_unit r.denominator));
+            not_negative = rw none_too (omega (arith, int_sums));
           }
     ]
 
@@ -185,4 +186,15 @@ all_near b built km rd middles radii pattern pattern_too filled laws loads r rea
       | inl up ↦ (filled_all b built km rd middles radii pattern pattern_too i j i_inside (filled i j i_inside up)).near laws loads r real
       | inr down ↦ rw (exact_symmetric r i j, middles.symmetric i j, radii.symmetric i j)
           ((filled_all b built km rd middles radii pattern pattern_too j i j_inside (filled j i j_inside (omega arith))).near laws loads r real)
+    ]
+
+pub all_not_negative : (b : Built) → IsBuilt b → (km rd : Matrix) → IsSymmetricByBlocks km → IsSymmetricByBlocks rd → HasPatternOf km b → HasPatternOf rd b →
+    ((i j : ℕ) → i < row_count b → i ≤ j → HasBlock km (i / 6) (j / 6) → IsFilled b km rd i j) →
+    (i j : ℕ) → i < row_count b → j < row_count b → pos 0 ≤ℤ entry rd i j
+all_not_negative b built km rd middles radii pattern pattern_too filled i j i_inside j_inside =
+    let side : (i ≤ j) ⊎ (j < i) = search arith in
+    elim side [
+      | inl up ↦ (filled_all b built km rd middles radii pattern pattern_too i j i_inside (filled i j i_inside up)).not_negative
+      | inr down ↦ rw (radii.symmetric i j)
+          (filled_all b built km rd middles radii pattern pattern_too j i j_inside (filled j i j_inside (omega arith))).not_negative
     ]

@@ -1,5 +1,5 @@
 -- How the two matrices are filled, entry by entry.
-use Rattle.std.specs.Prelude.{ℕ, ◌/◌, ◌<◌, ◌≤◌, ◌≡◌, List, ℤ, IsErr}
+use Rattle.std.specs.Prelude.{ℕ, ◌/◌, ◌<◌, ◌≤◌, ◌≡◌, List, ℤ, pos, ◌≤ℤ◌, IsErr}
 use Rattle.flex_interval.specs.Ends.{Ends}
 use Rattle.member_set.specs.declared.members.Built.{Built}
 use Rattle.member_set.specs.declared.members.Law.{Law}
@@ -19,10 +19,11 @@ abbrev pub AreNear : Built → ℕ → ℕ → ℤ → ℤ → Type 0
 AreNear b i j middle radius = (laws : List Law) (loads : List Ends) (r : Realisation) → IsRealisation b laws loads r →
     IsNear (entry_unit r.denominator) (exact_entry r i j) middle radius
 
--- the middle and the radius of an entry stand in the matrices
+-- the middle and the radius of an entry stand in the matrices; the radius is not below 0
 pub record IsFilled (b : Built) (middles radii : Matrix) (i j : ℕ) : Type 0 where
   pub are : AreOf (upper_entry b i j) (entry middles i j) (entry radii i j)
   pub near : AreNear b i j (entry middles i j) (entry radii i j)
+  pub not_negative : pos 0 ≤ℤ entry radii i j
 
 -- what is filled stays so
 pub record KeepsFilled (b : Built) (middles radii new_middles new_radii : Matrix) : Type 0 where

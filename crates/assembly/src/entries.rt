@@ -1,4 +1,4 @@
-ghost use Rattle.std.specs.Prelude.{◌≡◌, ℕ, ◌+◌, ◌/◌, ◌^◌, ◌<◌, length, slice_index, ℤ, pos, ◌+ℤ◌, ◌-ℤ◌, ◌*ℤ◌, ◌<ℤ◌, unsigned_abs, IfOk, List};
+ghost use Rattle.std.specs.Prelude.{◌≡◌, ℕ, ◌+◌, ◌/◌, ◌^◌, ◌<◌, length, slice_index, ℤ, pos, ◌+ℤ◌, ◌-ℤ◌, ◌*ℤ◌, ◌≤ℤ◌, ◌<ℤ◌, unsigned_abs, IfOk, List};
 ghost use Rattle.flex_num.specs.Division.{IsFloor};
 ghost use Rattle.flex_interval.specs.Ends.{Ends};
 ghost use Rattle.flex_interval.specs.Fraction.{Within};
@@ -50,6 +50,7 @@ pub(crate) fn middle(e: Iv) -> i128
 /// How far the upper end is from the middle.
 pub(crate) fn radius(e: Iv) -> i128
     ensures value { result ≡ radius_of e }
+    ensures not_negative { pos 0 ≤ℤ result }
     ensures small { unsigned_abs result < 2 ^ 126 }
 {
     e.hi - middle(e)

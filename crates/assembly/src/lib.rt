@@ -5,8 +5,6 @@ mod entries;
 mod fault;
 mod filling;
 mod matrices;
-#[cfg(test)]
-mod tests;
 
 pub use fault::AssembleFault;
 pub use matrices::assemble;

@@ -1,4 +1,4 @@
-ghost use Rattle.std.specs.Prelude.{◌≡◌, ℕ, ◌<◌, [], length, IfOk, IfErr, map, List};
+ghost use Rattle.std.specs.Prelude.{◌≡◌, ℕ, ◌<◌, [], length, IfOk, IfErr, map, List, pos, ◌≤ℤ◌};
 ghost use Rattle.flex_interval.specs.Ends.{Ends};
 ghost use Rattle.member_set.specs.declared.members.Law.{Law};
 ghost use Rattle.member_set.specs.Members.{IsBuilt, row_count};
@@ -26,6 +26,7 @@ pub fn assemble(
     ensures within { IfOk result (λ m. (laws : List Law) (loads : List Ends) (r : Realisation) → IsRealisation b.now laws loads r →
         (i j : ℕ) → i < row_count b.now → j < row_count b.now →
         IsNear (entry_unit r.denominator) (exact_entry r i j) (entry m.0 i j) (entry m.1 i j)) }
+    ensures radii { IfOk result (λ m. (i j : ℕ) → i < row_count b.now → j < row_count b.now → pos 0 ≤ℤ entry m.1 i j) }
     ensures fault { IfErr result (λ f. NamesFirstWide b.now f) }
 {
     let nodes = b.at.as_slice().len() as u32;

@@ -15,7 +15,7 @@ returns-clause-filled c =
     let middles : PutsAt c.args.middles.now c.put.new.matrix c.args.row c.args.col c.middle.result = rw (to_z-of_z middle_fits) at c.put.ensures in
     let radii : PutsAt c.args.radii.now c.put-2.new.matrix c.args.row c.args.col c.radius.result = rw (to_z-of_z radius_fits) at c.put-2.ensures in
     filled_from c.args.b.now c.args.middles.now c.args.radii.now _ _ c.args.row c.args.col _ _ c.in_ok-e.e (sym c.in_ok-e.ensures.value)
-    c.middle.ensures.meaning c.middle.ensures.value c.radius.ensures.value c.in_ok-e.ensures.within middles radii
+    c.middle.ensures.meaning c.middle.ensures.value c.radius.ensures.value c.in_ok-e.ensures.within c.radius.ensures.not_negative middles radii
 
 pub returns-clause-kept : goal.returns-clause-kept
 returns-clause-kept c =

@@ -4,7 +4,7 @@ use Rattle.member_set.specs.Members.{row_count}
 use Rattle.sym_blocks.specs.Matrix.{HasBlock}
 use Rattle.assembly.proofs.Patterns.{pairs_in_range, pattern_of_pairs}
 use Rattle.assembly.proofs.Kept.{pattern_kept}
-use Rattle.assembly.proofs.Whole.{assembled, all_near, first_wide, on_ok, on_err}
+use Rattle.assembly.proofs.Whole.{assembled, all_near, all_not_negative, first_wide, on_ok, on_err}
 use Rattle.assembly.proofs.matrices.assemble.Goals as goal
 
 pub new-requires : goal.new-requires
@@ -53,5 +53,11 @@ returns-clause-matrices c =
 pub returns-clause-within : goal.returns-clause-within
 returns-clause-within c =
     all_near c.args.b.now c.requires.built c.loop-row.middles c.loop-row.radii c.pattern-middles_nodes.ensures.kept c.pattern-radii_nodes.ensures.kept
+    c.loop-row.invariant.middles_pattern c.loop-row.invariant.radii_pattern
+    (λ i j inside. c.loop-row.invariant.filled i j (omega (arith, inside, ap (λ (xs : List (List ℕ)). length xs) c.as_slice.ensures)))
+
+pub returns-clause-radii : goal.returns-clause-radii
+returns-clause-radii c =
+    all_not_negative c.args.b.now c.requires.built c.loop-row.middles c.loop-row.radii c.pattern-middles_nodes.ensures.kept c.pattern-radii_nodes.ensures.kept
     c.loop-row.invariant.middles_pattern c.loop-row.invariant.radii_pattern
     (λ i j inside. c.loop-row.invariant.filled i j (omega (arith, inside, ap (λ (xs : List (List ℕ)). length xs) c.as_slice.ensures)))
