@@ -15,7 +15,7 @@ up_to_end e v interval floor =
 pub returns-clause-not_negative : goal.returns-clause-not_negative
 returns-clause-not_negative c =
     let above : pos 0 ≤ℤ (c.e.inside.hi -ℤ c.middle.result) =
-        up_to_end _ c.middle.result c.e.invariant (rw (sym c.e.view_is) at c.middle.ensures.meaning) in
+    up_to_end _ c.middle.result c.e.invariant (rw (sym c.e.view_is) at c.middle.ensures.meaning) in
     let hi_fits : FitsSigned w128 c.e.inside.hi = search rules in
     let middle_fits : FitsSigned w128 c.middle.result = search rules in
     let fits : FitsSigned w128 (c.e.inside.hi -ℤ c.middle.result) = search rules in
