@@ -13,7 +13,7 @@ use Rattle.model_types.specs.declared.records.Case.{Case}
 use Rattle.model_types.specs.declared.records.Node.{Node}
 use Rattle.model_types.specs.declared.records.Restraint.{Restraint}
 use Rattle.report.specs.Fits.{loads_count}
-use Rattle.report.specs.Report.{answer_lines, candidate_lines, case_candidate_lines, guess_lines, guess_word, load_count, load_pair, node_lines, restraint_lines, uncertified_words}
+use Rattle.report.specs.Report.{answer_lines, candidate_lines, guess_lines, guess_word, load_count, load_pair, node_lines, restraint_lines, uncertified_words}
 use Rattle.report.proofs.LineLemmas.{next_item, written}
 
 -- the candidate of one more node
@@ -41,16 +41,6 @@ restraint_written whole out new name restraints i count r loads row rest inside 
 -- how many loads the restraints from one on have
 pub loads_left : (restraints : List Restraint) (i : ℕ) (r : Restraint) → i < length restraints → r ≡ get_or restraints i r → loads_count (drop i restraints) ≡ load_count r.kind + loads_count (drop (i + 1) restraints)
 loads_left restraints i r inside is = ap loads_count (next_item restraints i r inside is)
-
--- the candidate of one more case
-pub candidate_written : (whole out begun new name : List ℕ) (m : Lists) (u : List ℤ) (cases : List Case) (nodes : List Node) (i : ℕ) (c : Case) → i < length cases → c ≡ get_or cases i c → name ≡ c.name → nodes ≡ m.nodes
-    → out ++ flat_map line (flat_map (case_candidate_lines m u) (drop i cases)) ≡ whole → begun ≡ out ++ line (codes "case" ∷ name ∷ codes "candidate" ∷ [])
-    → new ≡ begun ++ flat_map line (guess_lines nodes u) → new ++ flat_map line (flat_map (case_candidate_lines m u) (drop (i + 1) cases)) ≡ whole
-candidate_written whole out begun new name m u cases nodes i c inside is named there so_far begin step =
-    let lines = case_candidate_lines m u in
-    let piece : new ≡ out ++ flat_map line (lines c) = rw (step, begin, there, named) (append_assoc out _ _) in
-    let parts = ap (λ left. flat_map line (flat_map lines left)) (next_item cases i c inside is) ∙ flat_map-append line (lines c) (flat_map lines (drop (i + 1) cases)) in
-    written whole out new (flat_map line (lines c)) (flat_map line (flat_map lines (drop i cases))) (flat_map line (flat_map lines (drop (i + 1) cases))) parts so_far piece
 
 -- the lines of a certified case
 pub certified_written : (m : Lists) (c : Case) (answer : CaseAnswer) (u loads : List Bounds) (states : List Bool) (old begun said new name : List ℕ) (nodes : List Node) (restraints : List Restraint) (us ls : List Bounds) → answer ≡ Certified u loads states

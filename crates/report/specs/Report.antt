@@ -144,11 +144,3 @@ end_lines = (codes "end" ∷ []) ∷ []
 -- the bytes of the report of a model whose cases have these answers
 abbrev pub report_of : Lists → List CaseAnswer → List ℕ
 report_of m answers = flat_map line (head_lines m ++ case_lines m m.cases answers ++ end_lines)
-
--- the lines of a case that has a candidate and is not certified yet
-abbrev pub case_candidate_lines : Lists → List ℤ → Case → List (List Word)
-case_candidate_lines m u c = (codes "case" ∷ c.name ∷ codes "candidate" ∷ []) ∷ guess_lines m.nodes u
-
--- the bytes of the report where each case has this candidate
-abbrev pub candidate_report : Lists → List ℤ → List ℕ
-candidate_report m u = flat_map line (head_lines m ++ flat_map (case_candidate_lines m u) m.cases ++ end_lines)

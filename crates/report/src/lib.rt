@@ -7,7 +7,7 @@ mod rounding;
 mod rows;
 mod words;
 
-pub use lines::{bytes, candidate_bytes};
+pub use lines::bytes;
 pub use rounding::printed_pairs_hold;
 
 #[cfg(test)]

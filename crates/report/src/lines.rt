@@ -1,7 +1,7 @@
 ghost use Rattle.std.specs.Prelude.{◌≡◌, ◌++◌, All, OnOk, IfOk};
 ghost use Rattle.std.specs.List.{flat_map};
-ghost use Rattle.report.specs.Fits.{AreAnswersOf, FitsModel, IsCauseIn, IsGuess, IsModest};
-ghost use Rattle.report.specs.Report.{answer_lines, candidate_lines, candidate_report, case_candidate_lines, case_lines, count_words, head_lines, report_of, uncertified_words};
+ghost use Rattle.report.specs.Fits.{AreAnswersOf, FitsModel, IsCauseIn, IsModest};
+ghost use Rattle.report.specs.Report.{answer_lines, candidate_lines, case_lines, count_words, head_lines, report_of, uncertified_words};
 ghost use Rattle.text_words.specs.Fields.{line};
 
 use crate::causes::push_cause;
@@ -20,18 +20,6 @@ pub fn bytes(alloc: Global, m: &Model, cases: &[CaseAnswer]) -> Result<Vec<u8>, 
     let mut out = Vec::new(alloc);
     push_head(&mut out, m)?;
     push_answers(&mut out, m, cases)?;
-    push_line(&mut out, &[b"end"])?;
-    Ok(out)
-}
-
-/// The report of a model each of whose cases has this candidate, in 2^-56 m or rad, and no certificate yet.
-pub fn candidate_bytes(alloc: Global, m: &Model, u: &[i128]) -> Result<Vec<u8>, NoMemory>
-    requires candidate { IsGuess m.now u.now }
-    ensures { IfOk result (λ bytes. bytes.items ≡ candidate_report m.now u.now) }
-{
-    let mut out = Vec::new(alloc);
-    push_head(&mut out, m)?;
-    push_candidates(&mut out, m, u)?;
     push_line(&mut out, &[b"end"])?;
     Ok(out)
 }
@@ -122,18 +110,6 @@ fn push_candidate(
 {
     if let Cause::State { .. } = cause {
         push_guesses(out, m.nodes(), guess)?;
-    }
-    Ok(())
-}
-
-fn push_candidates(out: &mut Vec<u8>, m: &Model, u: &[i128]) -> Result<(), NoMemory>
-    requires { IsGuess m.now u.now }
-    ensures { OnOk result (out.new.items ≡ out.old.items ++ flat_map line (flat_map (case_candidate_lines m.now u.now) m.now.cases)) }
-{
-    let cases = m.cases();
-    for case in cases {
-        push_line(out, &[b"case", case.name.bytes(), b"candidate"])?;
-        push_guesses(out, m.nodes(), u)?;
     }
     Ok(())
 }

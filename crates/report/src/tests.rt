@@ -318,16 +318,6 @@ const CANDIDATE: [i128; 12] = [
 ];
 
 #[test]
-fn a_candidate(rt: HostRuntime) {
-    let m = pipe_model(&rt, rt.alloc(), ["a", "b"], "tip", false);
-    let report =
-        "pipeflex report 1\nmodel 2 1 1 1 0\ncase tip candidate\nguess a 0 0 -100 0 100 0\nguess b 0 0 -575286 0 862728 0\nend\n";
-    assert!(rt; is_candidate(&m, &CANDIDATE));
-    let written = candidate_bytes(rt.alloc(), &m, &CANDIDATE).expect(&rt, "memory");
-    assert_eq!(rt; written.as_slice(), report.as_bytes());
-}
-
-#[test]
 fn a_contact_state_that_fails(rt: HostRuntime) {
     let m = pipe_model(&rt, rt.alloc(), ["a", "b"], "tip", true);
     let report =
