@@ -1,6 +1,6 @@
 # pipeflex: each target is a line or two of rt, the command of the Rattle kit.
 PROGRAM = crates/pipeflex/out/pipeflex
-EXAMPLE = examples/riser
+EXAMPLE = examples/cantilever
 PREFIX ?= /usr/local
 
 .PHONY: all run test install clean
@@ -9,11 +9,11 @@ all: $(PROGRAM)
 
 # Proves every crate below the program, then compiles and links it.
 $(PROGRAM): crates.txt $(shell find crates -path '*/out' -prune -o -type f \( -name '*.rt' -o -name '*.antt' \) -print)
-	cd crates/pipeflex && rt run -- members < ../../$(EXAMPLE).flex > /dev/null
+	cd crates/pipeflex && rt run -- analyse < ../../$(EXAMPLE).flex > /dev/null
 
-# The member table of the example, compared with the stored one.
+# The report of the example, compared with the stored one.
 run: $(PROGRAM)
-	$(PROGRAM) members < $(EXAMPLE).flex | tee /dev/stderr | cmp - $(EXAMPLE).members
+	$(PROGRAM) analyse < $(EXAMPLE).flex | tee /dev/stderr | cmp - $(EXAMPLE).report
 
 # The gate: everything proved from nothing, every must-fail edit, test and program.
 test:
