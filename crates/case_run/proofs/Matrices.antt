@@ -1,5 +1,6 @@
 -- The assembled matrices: how many nodes they have, and how large their entries are.
-use Rattle.std.proofs.Common.{◌≡◌, ℕ, ◌+◌, ◌*◌, ◌^◌, ◌<◌, ◌≤◌, inl, inr, Bool, true, false, Ok, Err, nat_lt, refl, subst, arith, unsigned_abs, pos, if◌then◌else◌}
+use Rattle.std.proofs.Common.{◌≡◌, ℕ, ◌+◌, ◌*◌, ◌^◌, ◌<◌, ◌≤◌, inl, inr, Bool, true, false, Ok, Err, nat_lt, refl, subst, arith, unsigned_abs, pos, ◌<ℤ◌, ◌≤ℤ◌, if◌then◌else◌}
+use Rattle.std.proofs.lemmas.Int.{ints}
 use Rattle.std.proofs.lemmas.Bool.Decides.{nat_tests}
 use Rattle.flex_interval.specs.Ends.{Ends}
 use Rattle.flex_interval.specs.Operations.{and_then}
@@ -63,5 +64,33 @@ middles_small b middles radii built kept assembled i j =
             let of = assembled.entries i j (grind (arith, nat_tests)) (grind (arith, nat_tests)) in
             let small = entry_limited b i j _ of.enclosure of.value in
             rw of.middle_is (omega arith)
+      ] refl
+    ] refl
+
+-- a radius is below its limit
+pub radii_below : (b : Built) (middles radii : Matrix) → IsBuilt b → IsSymmetricByBlocks radii → AreAssembled b middles radii →
+    (i j : ℕ) → entry radii i j <ℤ pos (2 ^ 60)
+radii_below b middles radii built kept assembled i j =
+    let same = same_nodes b radii built kept assembled.radii_pattern in
+    elim (nat_lt i (row_count b)) as (λ t. nat_lt i (row_count b) ≡ t → entry radii i j <ℤ pos (2 ^ 60)) [
+      | false ↦ λ past. rw (past_rows radii i j kept (grind (arith, nat_tests))) (omega arith)
+      | true ↦ λ row. elim (nat_lt j (row_count b)) as (λ t. nat_lt j (row_count b) ≡ t → entry radii i j <ℤ pos (2 ^ 60)) [
+        | false ↦ λ past. rw (kept.symmetric i j, past_rows radii j i kept (grind (arith, nat_tests))) (omega arith)
+        | true ↦ λ col.
+            let of = assembled.entries i j (grind (arith, nat_tests)) (grind (arith, nat_tests)) in
+            let small = entry_limited b i j _ of.enclosure of.value in
+            rw of.radius_is (omega (arith, ints))
+      ] refl
+    ] refl
+
+pub radii_not_negative : (b : Built) (radii : Matrix) → IsBuilt b → IsSymmetricByBlocks radii → HasPatternOf radii b →
+    ((i j : ℕ) → i < row_count b → j < row_count b → pos 0 ≤ℤ entry radii i j) → (i j : ℕ) → pos 0 ≤ℤ entry radii i j
+radii_not_negative b radii built kept pattern inside i j =
+    let same = same_nodes b radii built kept pattern in
+    elim (nat_lt i (row_count b)) as (λ t. nat_lt i (row_count b) ≡ t → pos 0 ≤ℤ entry radii i j) [
+      | false ↦ λ past. rw (past_rows radii i j kept (grind (arith, nat_tests))) (omega arith)
+      | true ↦ λ row. elim (nat_lt j (row_count b)) as (λ t. nat_lt j (row_count b) ≡ t → pos 0 ≤ℤ entry radii i j) [
+        | false ↦ λ past. rw (kept.symmetric i j, past_rows radii j i kept (grind (arith, nat_tests))) (omega arith)
+        | true ↦ λ col. inside i j (grind (arith, nat_tests)) (grind (arith, nat_tests))
       ] refl
     ] refl

@@ -1,2 +1,5 @@
-pub mod Candidate
+pub mod Causes
 pub mod Steps
+pub mod Certified
+pub mod Equilibria
+pub mod Shared

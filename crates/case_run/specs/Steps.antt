@@ -1,8 +1,14 @@
 -- What the steps of a case hand on.
-use Rattle.std.specs.Prelude.{◌≡◌, ℕ, ◌*◌, ◌^◌, ◌<◌, ⊤, length, pos, ◌<ℤ◌, unsigned_abs}
+use Rattle.std.specs.Prelude.{◌≡◌, ℕ, ◌*◌, ◌^◌, ◌<◌, ◌≤◌, ⊤, List, length, Option, ℤ, pos, ◌-ℤ◌, ◌*ℤ◌, ◌≤ℤ◌, ◌<ℤ◌, unsigned_abs}
 use Rattle.model_types.specs.declared.answers.Cause.{Cause}
 use Rattle.sym_blocks.specs.Matrix.{Matrix, node_count, entry}
 use Rattle.factor_data.specs.Columns.{Columns, entry as factor_entry}
+use Rattle.factor_data.specs.Order.{IsOrder}
+use Rattle.factor.specs.State.{AreParents}
+use Rattle.certificate.specs.QuadraticForm.{absolute}
+use Rattle.certificate.specs.Definiteness.{SymmetricFractions, IsDefiniteWith}
+use Rattle.member_set.specs.declared.members.Built.{Built}
+use Rattle.member_set.specs.Members.{node_count as nodes_of}
 use Rattle.case_run.specs.declared.fault.CaseFault.{CaseFault}
 use Rattle.case_run.specs.declared.fault.CaseFault.TheVariants as faults
 
@@ -19,3 +25,30 @@ pub record IsFactorable (nodes : ℕ) (m : Matrix) : Type 0 where
 -- the diagonal of a factor is positive
 abbrev pub HasDiagonal : Columns → Type 0
 HasDiagonal f = (j : ℕ) → j < 6 * length f.order → pos 0 <ℤ factor_entry f j j
+
+-- an order of some nodes, and the parent of each of its places
+pub record IsPlan (order : List ℕ) (parents : List (Option ℕ)) : Type 0 where
+  pub some : 0 < length order
+  pub few : length order ≤ 8000
+  pub ordered : IsOrder order
+  pub parents_count : length parents ≡ length order
+  pub parents_later : AreParents parents (length order)
+
+-- radii of so many nodes, from 0 to below 2^60
+pub record AreRadii (nodes : ℕ) (m : Matrix) : Type 0 where
+  pub nodes_are : node_count m ≡ nodes
+  pub not_negative : (i j : ℕ) → pos 0 ≤ℤ entry m i j
+  pub below : (i j : ℕ) → entry m i j <ℤ pos (2 ^ 60)
+
+-- every symmetric matrix within the radii is definite with lambda
+abbrev pub AreDefinite : Matrix → Matrix → ℤ → Type 0
+AreDefinite middles radii lambda =
+    (k : SymmetricFractions (6 * node_count middles)) →
+    ((i j : ℕ) → i < 6 * node_count middles → j < 6 * node_count middles →
+    absolute (k.numerator i j -ℤ (k.denominator *ℤ entry middles i j)) ≤ℤ (k.denominator *ℤ entry radii i j)) →
+    IsDefiniteWith (6 * node_count middles) lambda k
+
+-- a factor of a structure's nodes with a positive diagonal
+pub record IsFactorFor (b : Built) (f : Columns) : Type 0 where
+  pub nodes_are : length f.order ≡ nodes_of b
+  pub diagonal : HasDiagonal f

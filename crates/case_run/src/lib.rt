@@ -1,8 +1,10 @@
 //! The load cases of a model.
 #![tactic(auto)]
 
-mod candidate;
+mod cases;
 mod fault;
+mod margin;
+mod shared;
 mod steps;
 
-pub use candidate::{CaseCandidate, candidate_of};
+pub use cases::answers;

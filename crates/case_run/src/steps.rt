@@ -1,17 +1,23 @@
-ghost use Rattle.std.specs.Prelude.{◌≡◌, ◌<◌, ◌≤◌, ℕ, length, [], IfOk, IfErr, ℤ, pos, ◌≤ℤ◌, ◌^◌};
-ghost use Rattle.member_set.specs.Members.{IsBuilt, FitsBuilt, node_count, row_count};
-ghost use Rattle.assembly.specs.Stiffness.{AreAssembled};
+ghost use Rattle.std.specs.Prelude.{◌≡◌, ◌<◌, ◌≤◌, ℕ, length, [], IfOk, IfErr, ℤ, pos, ◌≤ℤ◌, ◌^◌, List};
+ghost use Rattle.flex_interval.specs.Ends.{Ends};
+ghost use Rattle.member_set.specs.Members.{IsBuilt, FitsBuilt, IsModerate, node_count, row_count};
+ghost use Rattle.member_set.specs.Realisation.{Realisation, IsRealisation, IsEquilibrium, Vector};
+ghost use Rattle.assembly.specs.Stiffness.{AreAssembled, exact_entry, entry_unit, IsNear};
+ghost use Rattle.sym_blocks.specs.Matrix.{entry};
+ghost use Rattle.certificate.specs.Bounds.{AreBounds, IsDefiniteRealisation, EnclosesEquilibrium};
+ghost use Rattle.case_run.specs.Certified.{IsResidualCause};
 ghost use Rattle.factor.specs.State.{AreParents};
 ghost use Rattle.factor_data.specs.Order.{IsOrder};
 ghost use Rattle.load_vectors.specs.Loads.{AreLoads, HasForcesAlone, case_at};
 ghost use Rattle.solve.specs.Refinement.{problem, IsCandidate};
 ghost use Rattle.structure.specs.Anchors.{HasAnchorsAlone};
 ghost use Rattle.structure.specs.Structure.{IsStructureOf, IsStiff};
-ghost use Rattle.case_run.specs.Candidate.{plan, resting_laws, IsFactorAt, IsElementCause, IsMatrixCause, IsLoadCause, IsBreakdownCause, IsSolveCause};
-ghost use Rattle.case_run.specs.Steps.{Names, IsFactorable, HasDiagonal};
+ghost use Rattle.case_run.specs.Causes.{plan, resting_laws, IsFactorAt, IsElementCause, IsMatrixCause, IsLoadCause, IsBreakdownCause, IsSolveCause};
+ghost use Rattle.case_run.specs.Steps.{Names, IsFactorable, AreRadii, HasDiagonal};
 
 use crate::fault::CaseFault;
 use assembly::{AssembleFault, assemble};
+use certificate::{EncloseFault, Enclosure, enclose};
 use factor::{ScalarFault, scalar};
 use factor_data::Factor;
 use flex_interval::{Iv, point};
@@ -43,12 +49,17 @@ pub(crate) fn matrices_of(alloc: Global, b: &Built) -> Result<(SymBlocks, SymBlo
     requires linear { b.now.unilateral ≡ [] }
     ensures assembled { IfOk result (λ m. AreAssembled b.now m.0 m.1) }
     ensures factorable { IfOk result (λ m. IsFactorable (node_count b.now) m.0) }
+    ensures radii { IfOk result (λ m. AreRadii (node_count b.now) m.1) }
+    ensures within { IfOk result (λ m. (loads : List Ends) (r : Realisation) → IsRealisation b.now (resting_laws b.now) loads r →
+        (i j : ℕ) → i < row_count b.now → j < row_count b.now →
+        IsNear (entry_unit r.denominator) (exact_entry r i j) (entry m.0 i j) (entry m.1 i j)) }
     ensures cause { IfErr result (Names (IsMatrixCause b.now)) }
 {
     match assemble(alloc, b, &[]) {
         Ok((middles, radii)) => {
             // What every matrix keeps: it is 0 outside its pattern.
-            let _nodes = middles.pattern(0);
+            let _middles_nodes = middles.pattern(0);
+            let _radii_nodes = radii.pattern(0);
             Ok((middles, radii))
         }
         Err(AssembleFault::Wide { row }) => Err(CaseFault::Because(Cause::WidthMatrix {
@@ -135,5 +146,34 @@ pub(crate) fn displacements_of(
         Ok(u) => Ok(u),
         Err(SolveFault::Wide) => Err(CaseFault::Because(Cause::WidthSolve { turn: 1 })),
         Err(SolveFault::NoMemory) => Err(CaseFault::NoMemory),
+    }
+}
+
+/// The bounds around displacements that refinement found.
+pub(crate) fn bounds_around(
+    alloc: Global,
+    b: &Built,
+    laws: &[Law],
+    loads: &[Iv],
+    u: &[i128],
+    lambda: i128,
+) -> Result<Enclosure, CaseFault>
+    requires built { IsBuilt b.now }
+    requires laws { laws.now ≡ resting_laws b.now }
+    requires lists { FitsBuilt b.now laws.now loads.now }
+    requires linear { b.now.unilateral ≡ [] }
+    requires stiff { IsStiff b.now }
+    requires one_displacement_each { length u.now ≡ row_count b.now }
+    requires moderate { IsModerate u.now }
+    requires positive { pos 1 ≤ℤ lambda }
+    ensures bounds { IfOk result (AreBounds b.now (resting_laws b.now) loads.now u.now lambda) }
+    ensures encloses { IfOk result (λ e. (r : Realisation) (exact : Vector) → IsRealisation b.now (resting_laws b.now) loads.now r →
+        IsDefiniteRealisation r lambda → IsEquilibrium r exact → EnclosesEquilibrium e r exact) }
+    ensures cause { IfErr result (Names (IsResidualCause b.now loads.now u.now lambda)) }
+{
+    match enclose(alloc, b, laws, loads, u, lambda) {
+        Ok(e) => Ok(e),
+        Err(EncloseFault::Wide) => Err(CaseFault::Because(Cause::WidthResidual)),
+        Err(EncloseFault::NoMemory) => Err(CaseFault::NoMemory),
     }
 }

@@ -1,3 +1,5 @@
+mod Fits
 mod Outcomes
+mod Printed
 mod RunLemmas
 mod TableLemmas

@@ -1,9 +1,11 @@
--- What the outcome of a case of a model with two nodes says of the model's report.
-use Rattle.std.proofs.Common.{◌≡◌, ℕ, zero, suc, ◌*◌, ◌/◌, ◌%◌, ◌<◌, List, [], ◌∷◌, ◌++◌, length, Result, Ok, Err, pos, refl, sym, subst, arith}
+-- Which records the cause of an uncertified case names, in a model with two nodes.
+use Rattle.std.proofs.Common.{◌≡◌, ℕ, zero, suc, ◌*◌, ◌/◌, ◌%◌, ◌<◌, List, [], ◌∷◌, ◌++◌, length, Result, Ok, Err, ℤ, pos, refl, sym, ◌∙◌, subst, arith}
 use Rattle.std.specs.Prelude.{slice_index, slice_index_or}
 use Rattle.std.specs.List.{flat_map}
-use Rattle.case_run.specs.Candidate.{IsFirstCause, before_structure, before_matrices, before_loads, before_factor, before_candidate, IsElementCause, first_element, IsMatrixCause, matrix_row, IsLoadCause, load_row, IsBreakdownCause, pivot, wide, IsSolveCause, refinement}
+use Rattle.case_run.specs.Causes.{IsElementCause, first_element, IsMatrixCause, matrix_row, IsLoadCause, load_row, IsBreakdownCause, pivot, wide, IsSolveCause, refinement}
+use Rattle.case_run.specs.Certified.{IsModelCause, no_structure, no_matrices, no_margin, IsOwnCause, no_loads, no_unshifted_factor, no_candidate, no_bounds, IsUncertified, by_model, by_case, ShiftFails, no_factor, row_fails, last_place, shift_of, IsResidualCause, residual}
 use Rattle.factor_data.specs.Order.{IsOrder}
+use Rattle.flex_interval.specs.Ends.{Ends}
 use Rattle.flex_interval.specs.declared.fault.Wide.{Wide}
 use Rattle.member_set.specs.declared.members.Member.{Member}
 use Rattle.model_types.specs.Lists.{Lists}
@@ -15,7 +17,7 @@ use Rattle.member_set.specs.declared.members.Built.{Built}
 use Rattle.solve.specs.Refinement.{Problem}
 use Rattle.structure.specs.Structure.{IsStructureOf, Members, and_then, element_members, model_members, with_element}
 use Rattle.pipeflex_top.specs.Analysis.{text_order}
-use Rattle.sym_blocks.specs.Matrix.{Matrix}
+use Rattle.sym_blocks.specs.Matrix.{Matrix, node_count}
 
 -- ---- the text's order of two nodes
 
@@ -70,13 +72,13 @@ wide_element m number e = wide_below m (length m.elements) number (fault_before 
 row_inside : (row nodes : ℕ) → row < 6 * nodes → (row / 6 < nodes) × (row % 6 < 6)
 row_inside row nodes inside = (omega (arith, inside), omega arith)
 
-broken_inside : (m : Lists) (middles : Matrix) (cause : Cause) → length m.nodes ≡ 2 → IsBreakdownCause text_order middles (pos 0) cause → IsCauseIn m cause
-broken_inside m middles cause two (pivot node dof broken) =
+broken_inside : (m : Lists) (middles : Matrix) (shift : ℤ) (cause : Cause) → length m.nodes ≡ 2 → IsBreakdownCause text_order middles shift cause → IsCauseIn m cause
+broken_inside m middles shift cause two (pivot node dof broken) =
     let place = broken.0 in
     let here = broken.2 in
     let inside : place < 2 = omega (arith, here.2.column) in
     (rw (two, sym here.0) (node_inside place inside), here.1)
-broken_inside m middles cause two (wide node broken) =
+broken_inside m middles shift cause two (wide node broken) =
     let here = broken.2 in
     rw (two, sym here.0) (node_inside broken.0 here.1.node)
 
@@ -92,10 +94,29 @@ load_inside m case cause (load_row row first) = row_inside row (length m.nodes) 
 solve_inside : (m : Lists) (p : Problem) (cause : Cause) → IsSolveCause p cause → IsCauseIn m cause
 solve_inside m p cause (refinement breaks) = tt
 
--- the records that the first cause names are the model's
-pub IsCauseIn-first : (m : Lists) (cause : Cause) → length m.nodes ≡ 2 → IsFirstCause m 0 text_order cause → IsCauseIn m cause
-IsCauseIn-first m cause two (before_structure wide) = element_inside m cause wide
-IsCauseIn-first m cause two (before_matrices b structure wide) = matrix_inside m b cause structure wide
-IsCauseIn-first m cause two (before_loads b middles radii structure assembled wide) = load_inside m 0 cause wide
-IsCauseIn-first m cause two (before_factor b middles radii loads before broken) = broken_inside m middles cause two broken
-IsCauseIn-first m cause two (before_candidate b middles radii loads columns before factorised breaks) = solve_inside m _ cause breaks
+residual_inside : (m : Lists) (b : Built) (loads : List Ends) (u : List ℤ) (lambda : ℤ) (cause : Cause) → IsResidualCause b loads u lambda cause → IsCauseIn m cause
+residual_inside m b loads u lambda cause (residual none) = tt
+
+shift_inside : (m : Lists) (middles radii : Matrix) (shift : ℤ) (cause : Cause) → length m.nodes ≡ 2 → node_count middles ≡ length m.nodes
+    → ShiftFails text_order middles radii shift cause → IsCauseIn m cause
+shift_inside m middles radii shift cause two nodes (no_factor c broken) = broken_inside m middles shift c two broken
+shift_inside m middles radii shift cause two nodes (row_fails factor row factorised verdict) = row_inside row (length m.nodes) (subst (λ n. row < 6 * n) nodes verdict.0)
+
+-- the records that a cause of the whole model names are the model's
+model_inside : (m : Lists) (cause : Cause) → length m.nodes ≡ 2 → IsModelCause m text_order cause → IsCauseIn m cause
+model_inside m cause two (no_structure first) = element_inside m cause first
+model_inside m cause two (no_matrices b structure first) = matrix_inside m b cause structure first
+model_inside m cause two (no_margin b middles radii structure assembled nodes none) =
+    shift_inside m middles radii (shift_of last_place) cause two (nodes ∙ structure.nodes) none.fails
+
+-- and those that a cause of the case's own names
+own_inside : (m : Lists) (case : ℕ) (b : Built) (middles : Matrix) (lambda : ℤ) (cause : Cause) → length m.nodes ≡ 2
+    → IsOwnCause m case text_order b middles lambda cause → IsCauseIn m cause
+own_inside m case b middles lambda cause two (no_loads first) = load_inside m case cause first
+own_inside m case b middles lambda cause two (no_unshifted_factor loads loaded broken) = broken_inside m middles (pos 0) cause two broken
+own_inside m case b middles lambda cause two (no_candidate loads factor loaded factorised breaks) = solve_inside m _ cause breaks
+own_inside m case b middles lambda cause two (no_bounds loads u candidate none) = residual_inside m b loads u lambda cause none
+
+pub uncertified_inside : (m : Lists) (case : ℕ) (cause : Cause) → length m.nodes ≡ 2 → IsUncertified m case text_order cause → IsCauseIn m cause
+uncertified_inside m case cause two (by_model of) = model_inside m cause two of
+uncertified_inside m case cause two (by_case b middles lambda certifiable of) = own_inside m case b middles lambda cause two of

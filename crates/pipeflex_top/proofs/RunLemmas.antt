@@ -1,5 +1,5 @@
 -- What a text is, of which only the bytes up to the one past the limit were read.
-use Rattle.std.proofs.Common.{◌≡◌, ◌≢◌, ℕ, ◌<◌, ◌≤◌, codes, List, [], ◌∷◌, ◌++◌, Option, None, Some, IfSome, IfOk, Ok, Err, String, Global, arith, refl, sym, ap, subst, ◌∙◌, inl, inr, length, take, drop, take-append-drop, length-take, take_all, lt-ltb}
+use Rattle.std.proofs.Common.{◌≡◌, ◌≢◌, ℕ, ◌<◌, ◌≤◌, codes, List, [], ◌∷◌, ◌++◌, Option, None, Some, IfSome, IfOk, Result, Ok, Err, ◌⊎◌, String, Global, arith, refl, sym, ap, subst, ◌∙◌, inl, inr, length, take, drop, take-append-drop, length-take, take_all, lt-ltb}
 use Rattle.std.proofs.lemmas.Bool.{cases_lt}
 use Rattle.std.proofs.lemmas.List.{append_cancel_left}
 use Rattle.std.proofs.lemmas.Fmt.{decimal_injective}
@@ -13,7 +13,8 @@ use Rattle.model_types.specs.Lists.{Lists}
 use Rattle.pipeflex_top.specs.declared.commands.Command.{Command}
 use Rattle.pipeflex_top.specs.declared.commands.Command.TheVariants.{Members, Echo, Analyse}
 use Rattle.pipeflex_top.specs.Enclosure.{PrintsEnclosures}
-use Rattle.pipeflex_top.specs.Run.{Answers, Ask, AskAnalysis, plain, stated, Asks, Decides, HasForm, IsAnswer, IsOutput, IsRefusedFor, faulty, unbuilt, ReadsText, Takes, ending_of}
+use Rattle.pipeflex_top.specs.Analysis.{IsReport}
+use Rattle.pipeflex_top.specs.Run.{Answers, AnswersModel, Ask, AskAnalysis, plain, stated, Asks, Decides, HasForm, IsAnswer, IsOutput, IsRefusedFor, faulty, unbuilt, ReadsText, Takes, IsEnding}
 
 -- the bytes that were taken are the text up to the byte past the limit, so what is left follows them
 pub ReadsText-taken : (left after : Option (List ℕ)) (bytes : List ℕ) → Consumes left after bytes → IfSome left (λ text. bytes ≡ take 4194305 text) → ReadsText left after
@@ -94,15 +95,17 @@ Answers-taken words command left after bytes output message NoMemory asked taken
   told = answer.1;
 }
 
--- a command's output is the answer to the text of the model
-pub IsAnswer-output : (command : Command) (text output message : List ℕ) (status : Status) (m : Lists)
-    → parsed text ≡ Ok m → message ≡ [] → IsOutput command m output status → IsAnswer command text output message status
-IsAnswer-output Members text output message status m ok silent written =
-    subst (IsAnswer Members text output message) (sym written.ends) (record { model = m; text_is = ok; written = subst (IsOutput Members m output) written.ends written; silent = silent })
-IsAnswer-output Echo text output message status m ok silent written =
-    subst (IsAnswer Echo text output message) (sym written.ends) (record { model = m; text_is = ok; written = subst (IsOutput Echo m output) written.ends written; silent = silent })
-IsAnswer-output (Analyse workers) text output message status m ok silent written =
-    subst (IsAnswer (Analyse workers) text output message) (sym written.ends) (record { model = m; text_is = ok; written = subst (IsOutput (Analyse workers) m output) written.ends written; silent = silent })
+-- an output ends a run so
+output_ends : (command : Command) (m : Lists) (output : List ℕ) (status : Status) → IsOutput command m output status → IsEnding command status
+output_ends Members m output status written = written.made.2
+output_ends Echo m output status written = written.made.1
+output_ends (Analyse workers) m output Done written = inl refl
+output_ends (Analyse workers) m output Uncertified written = inr refl
+output_ends (Analyse workers) m output Refused written = absurd written.made.ends
+output_ends (Analyse workers) m output Usage written = absurd written.made.ends
+output_ends (Analyse workers) m output ReadFault written = absurd written.made.ends
+output_ends (Analyse workers) m output WriteFault written = absurd written.made.ends
+output_ends (Analyse workers) m output NoMemory written = absurd written.made.ends
 
 -- the numbers of workers that the words ask for are the same
 one_count : (words : List (List ℕ)) (first second : ℕ) → AskAnalysis words first → AskAnalysis words second → first ≡ second
@@ -144,7 +147,7 @@ not_both command text m refusal ok taken (unbuilt other also untaken) = untaken 
 Decides-output : (words : List (String Global)) (command : Command) (m : Lists) (text output : List ℕ) (status : Status)
     → Asks words command → parsed text ≡ Ok m → IsOutput command m output status → Decides words status text
 Decides-output words command m text output status asked ok written = record {
-  accepted = λ other n asks is taken. inl (written.ends ∙ ap ending_of (one_command _ command other asked asks));
+  accepted = λ other n asks is taken. inl (subst (λ c. IsEnding c status) (one_command _ command other asked asks) (output_ends command m output status written));
   refused = λ other refusal asks refused. absurd (not_both command text m refusal ok written.taken (subst (λ c. IsRefusedFor c text refusal) (sym (one_command _ command other asked asks)) refused));
 }
 
@@ -174,3 +177,32 @@ enclosed-answer words (Some text) after output message status answers done membe
     let model = subst (Answers words (Some text) after output message) done answers in
     let made = subst (λ command. IsOutput command model.model output Done) (one_command _ model.command Members model.asked members) model.written in
     subst (λ judged. IfOk judged PrintsEnclosures) (sym model.text) made.made.1
+
+-- where the report was written, it is that of the model
+certified-model : (words : List (String Global)) (text output message : List ℕ) (after : Option (List ℕ)) (status : Status) (workers : ℕ)
+    → AnswersModel words (Some text) after output message status → Asks words (Analyse workers) → IfOk (parsed text) (λ m. IsReport m output status)
+certified-model words text output message after status workers model asks =
+    let made = subst (λ command. IsOutput command model.model output status) (one_command _ model.command (Analyse workers) model.asked asks) model.written in
+    subst (λ judged. IfOk judged (λ m. IsReport m output status)) (sym model.text) made.made
+
+pub certified-answer : (words : List (String Global)) (left after : Option (List ℕ)) (output message : List ℕ) (status : Status) (workers : ℕ)
+    → Answers words left after output message status → Asks words (Analyse workers) → (status ≡ Done) ⊎ (status ≡ Uncertified)
+    → IfSome left (λ text. IfOk (parsed text) (λ m. IsReport m output status))
+certified-answer words None after output message status workers answers asks written = tt
+certified-answer words (Some text) after output message status workers answers asks (inl done) =
+    let model : AnswersModel words (Some text) after output message status = subst (AnswersModel words (Some text) after output message) (sym done) (subst (Answers words (Some text) after output message) done answers) in
+    certified-model words text output message after status workers model asks
+certified-answer words (Some text) after output message status workers answers asks (inr some) =
+    let model : AnswersModel words (Some text) after output message status = subst (AnswersModel words (Some text) after output message) (sym some) (subst (Answers words (Some text) after output message) some answers) in
+    certified-model words text output message after status workers model asks
+
+with_judged : (A : List ℕ → Type 0) (P : Lists → List ℕ → Type 0) (judged : Result Lists Refusal) (output : List ℕ)
+    → A output → IfOk judged (λ m. P m output) → IfOk judged (λ m. (o : List ℕ) × A o × P m o)
+with_judged A P (Ok m) output written told = (output, written, told)
+with_judged A P (Err refusal) output written told = tt
+
+-- what is told of each output is told of the one that was written
+pub with_output : (A : List ℕ → Type 0) (P : Lists → List ℕ → Type 0) (left : Option (List ℕ)) (output : List ℕ)
+    → A output → IfSome left (λ text. IfOk (parsed text) (λ m. P m output)) → IfSome left (λ text. IfOk (parsed text) (λ m. (o : List ℕ) × A o × P m o))
+with_output A P None output written told = tt
+with_output A P (Some text) output written told = with_judged A P (parsed text) output written told

@@ -1,23 +1,35 @@
--- The report of an analysis, before any case is certified.
-use Rattle.std.specs.Prelude.{◌≡◌, ℕ, List, [], ◌∷◌, Some, None}
-use Rattle.case_run.specs.Candidate.{Plan, plan, IsOutcome}
-use Rattle.case_run.specs.declared.candidate.CaseCandidate.{CaseCandidate}
-use Rattle.case_run.specs.declared.candidate.CaseCandidate.TheVariants.{Found, Missing}
+-- The report of an analysis.
+use Rattle.std.specs.Prelude.{◌≡◌, ℕ, ⊤, List, [], ◌∷◌, Some, None, All}
+use Rattle.case_run.specs.Causes.{Plan, plan}
+use Rattle.case_run.specs.Certified.{AreCaseAnswers}
+use Rattle.flex_io.specs.declared.Status.{Status}
+use Rattle.flex_io.specs.declared.Status.TheVariants.{Done, Uncertified}
 use Rattle.model_types.specs.Lists.{Lists}
-use Rattle.model_types.specs.declared.answers.CaseAnswer.TheVariants.{Uncertified}
-use Rattle.report.specs.Report.{report_of, candidate_report}
+use Rattle.model_types.specs.declared.answers.CaseAnswer.{CaseAnswer}
+use Rattle.model_types.specs.declared.answers.CaseAnswer.TheVariants as answer
+use Rattle.report.specs.Report.{report_of}
+use Rattle.pipeflex_top.specs.Bounds.{PrintBounds}
 
 -- two nodes are eliminated in text order: the parent of the first is the second
 abbrev pub text_order : Plan
 text_order = plan (0 ∷ 1 ∷ []) (Some 1 ∷ None ∷ [])
 
--- the report of a model whose one case has a candidate, or a cause why there is none
-abbrev pub report_with : Lists → CaseCandidate → List ℕ
-report_with m (Found u) = candidate_report m u
-report_with m (Missing cause) = report_of m (Uncertified cause [] ∷ [])
+-- the case has a certificate
+abbrev pub IsCertified : CaseAnswer → Type 0
+IsCertified (answer.Certified u loads states) = ⊤
+IsCertified (answer.Uncertified cause guess) = ⊥
 
--- the output is the report of what the model's one case has
-pub record IsReport (m : Lists) (output : List ℕ) : Type 0 where
-  pub outcome : CaseCandidate
-  pub reached : IsOutcome m 0 text_order outcome
-  pub written : output ≡ report_with m outcome
+-- how a run ends that has written the report of these answers: Done where all cases are certified, Uncertified where one isn't
+abbrev pub EndsWith : List CaseAnswer → Status → Type 0
+EndsWith answers Done = All IsCertified answers
+EndsWith answers Uncertified = ¬ (All IsCertified answers)
+EndsWith answers _ = ⊥
+
+-- the output is the report of the answers of the model's cases, the run ends as they say, and every equilibrium is in the
+-- printed bounds of each case that is certified
+pub record IsReport (m : Lists) (output : List ℕ) (status : Status) : Type 0 where
+  pub answers : List CaseAnswer
+  pub reached : AreCaseAnswers m text_order answers
+  pub written : output ≡ report_of m answers
+  pub ends : EndsWith answers status
+  pub bounds : PrintBounds m answers

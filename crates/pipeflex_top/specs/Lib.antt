@@ -1,4 +1,5 @@
 pub mod Analysis
+pub mod Bounds
 pub mod Enclosure
 pub mod MemberTable
 pub mod OneStraight

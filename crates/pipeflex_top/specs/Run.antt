@@ -63,23 +63,17 @@ Takes Members m = ⊤
 Takes Echo m = ⊤
 Takes (Analyse workers) m = IsOneStraight m
 
--- how a run ends that has written the command's output: no case is certified yet
-abbrev pub ending_of : Command → Status
-ending_of Members = Done
-ending_of Echo = Done
-ending_of (Analyse workers) = Uncertified
+-- what a command makes of a model, and how a run ends that has written it: the member table, the canonical text, or the
+-- report
+abbrev pub IsOutputOf : Command → Lists → List ℕ → Status → Type 0
+IsOutputOf Members m output status = (output ≡ table_of m) × PrintsEnclosures m × (status ≡ Done)
+IsOutputOf Echo m output status = (output ≡ canonical m) × (status ≡ Done)
+IsOutputOf (Analyse workers) m output status = IsReport m output status
 
--- what a command makes of a model: its member table, its canonical text, or its report
-abbrev pub IsOutputOf : Command → Lists → List ℕ → Type 0
-IsOutputOf Members m output = (output ≡ table_of m) × PrintsEnclosures m
-IsOutputOf Echo m output = output ≡ canonical m
-IsOutputOf (Analyse workers) m output = IsReport m output
-
--- the output is the command's on the model, and the run ends so
+-- the output is the command's on a model that it takes, and the run ends so
 pub record IsOutput (command : Command) (m : Lists) (output : List ℕ) (status : Status) : Type 0 where
   pub taken : Takes command m
-  pub made : IsOutputOf command m output
-  pub ends : status ≡ ending_of command
+  pub made : IsOutputOf command m output status
 
 -- the text is refused for a command: by its grammar, or because the command doesn't take its model yet
 pub data IsRefusedFor (command : Command) (text : List ℕ) : Refusal → Type 0 where
@@ -151,8 +145,14 @@ Answers words left after output message ReadFault = AnswersWithoutText words lef
 Answers words left after output message WriteFault = ⊥
 Answers words left after output message NoMemory = AnswersWithoutText words left after output message []
 
--- where nothing fails: for the text of a model that the command takes, the command's own ending; Refused for a text that is
+-- how a run may end that has written the command's output
+abbrev pub IsEnding : Command → Status → Type 0
+IsEnding Members status = status ≡ Done
+IsEnding Echo status = status ≡ Done
+IsEnding (Analyse workers) status = (status ≡ Done) ⊎ (status ≡ Uncertified)
+
+-- where nothing fails: for the text of a model that the command takes, an ending of the command; Refused for a text that is
 -- refused; or memory ran out
 pub record Decides (words : List (String Global)) (status : Status) (text : List ℕ) : Type 0 where
-  pub accepted : (command : Command) (m : Lists) → Asks words command → parsed text ≡ Ok m → Takes command m → (status ≡ ending_of command) ⊎ (status ≡ NoMemory)
+  pub accepted : (command : Command) (m : Lists) → Asks words command → parsed text ≡ Ok m → Takes command m → IsEnding command status ⊎ (status ≡ NoMemory)
   pub refused : (command : Command) (refusal : Refusal) → Asks words command → IsRefusedFor command text refusal → (status ≡ Refused) ⊎ (status ≡ NoMemory)

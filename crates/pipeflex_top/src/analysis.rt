@@ -1,33 +1,52 @@
 //! The report of the analysis of a model.
-ghost use Rattle.std.specs.Prelude.{◌≡◌, [], ◌∷◌, IfOk};
-ghost use Rattle.model_types.specs.declared.answers.CaseAnswer.TheVariants.{Uncertified};
-ghost use Rattle.pipeflex_top.specs.Analysis.{IsReport};
+ghost use Rattle.std.specs.Prelude.{◌≡◌, ◌↔◌, IfOk, IsTrue, All};
+ghost use Rattle.pipeflex_top.specs.Analysis.{IsCertified, IsReport, EndsWith};
 ghost use Rattle.pipeflex_top.specs.OneStraight.{IsOneStraight};
-ghost use Rattle.report.specs.Fits.{IsCauseIn};
-ghost use Rattle.report.specs.Report.{report_of};
 
-use case_run::{CaseCandidate, candidate_of};
-use model_types::{CaseAnswer, CaseId, Cause, Model, NoMemory, Values};
-use report::{bytes, candidate_bytes};
+use crate::written::Written;
+use case_run::answers;
+use flex_io::Status;
+use model_types::{CaseAnswer, Model, NoMemory};
+use report::bytes;
 use std::alloc::Global;
 
-/// The report of a model: its case has a candidate, or a cause why there is none.
-pub fn analysis(alloc: Global, model: &Model) -> Result<Vec<u8>, NoMemory>
+/// The report of a model, and how the run ends that has written it.
+pub fn analysis(alloc: Global, model: &Model) -> Result<Written, NoMemory>
     requires { IsOneStraight model.now }
-    ensures { IfOk result (λ bytes. IsReport model.now bytes.items) }
+    ensures { IfOk result (λ written. IsReport model.now written.bytes.items written.status) }
 {
-    match candidate_of(alloc, model, CaseId(0), &[0, 1], &[Some(1), None])? {
-        CaseCandidate::Found(u) => candidate_bytes(alloc, model, u.as_slice()),
-        CaseCandidate::Missing(cause) => uncertified(alloc, model, cause),
+    // What a printed pair holds.
+    report::printed_pairs_hold();
+    let answers = answers(alloc, model, &[0, 1], &[Some(1), None])?;
+    let status = ending_with(&answers);
+    let bytes = bytes(alloc, model, &answers)?;
+    Ok(Written { bytes, status })
+}
+
+// How a run ends that has written the report of these answers.
+fn ending_with(answers: &[CaseAnswer]) -> Status
+    ensures { EndsWith answers.now result }
+{
+    if all_certified(answers) {
+        Status::Done
+    } else {
+        Status::Uncertified
     }
 }
 
-// The report of a model whose one case has none, for this cause.
-fn uncertified(alloc: Global, model: &Model, cause: Cause) -> Result<Vec<u8>, NoMemory>
-    requires straight { IsOneStraight model.now }
-    requires cause { IsCauseIn model.now cause }
-    ensures { IfOk result (λ bytes. bytes.items ≡ report_of model.now (Uncertified cause [] ∷ [])) }
+fn all_certified(answers: &[CaseAnswer]) -> bool
+    ensures { IsTrue result ↔ All IsCertified answers.now }
 {
-    let guess = Values::new(Vec::new(alloc));
-    bytes(alloc, model, &[CaseAnswer::Uncertified { cause, guess }])
+    for answer in answers {
+        if !is_certified(answer) {
+            return false;
+        }
+    }
+    true
+}
+
+fn is_certified(answer: &CaseAnswer) -> bool
+    ensures { IsTrue result ↔ IsCertified answer.now }
+{
+    matches!(answer, CaseAnswer::Certified { .. })
 }

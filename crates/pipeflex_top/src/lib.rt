@@ -8,5 +8,6 @@ mod one_straight;
 mod program;
 mod refusal;
 mod reply;
+mod written;
 
 pub use program::run;

@@ -4,7 +4,8 @@ ghost use Rattle.flex_io.specs.Fault.{Rose};
 ghost use Rattle.flex_io.specs.Sink.{HasRoom, WritesAll, WritesPart};
 ghost use Rattle.flex_io.specs.declared.Status.{Status};
 ghost use Rattle.model_text.specs.Grammar.{parsed};
-ghost use Rattle.pipeflex_top.specs.declared.commands.Command.TheVariants.{Members};
+ghost use Rattle.pipeflex_top.specs.declared.commands.Command.TheVariants.{Members, Analyse};
+ghost use Rattle.pipeflex_top.specs.Analysis.{IsReport};
 ghost use Rattle.pipeflex_top.specs.Enclosure.{PrintsEnclosures};
 ghost use Rattle.pipeflex_top.specs.Run.{Answers, Asks, Decides, HasForm, message_bytes};
 
@@ -45,6 +46,13 @@ pub fn run<R: Threads + Sync, S: Source, K: Sink, E: Sink, G: Gate>(
     // Each exact stiffness of each straight lies in the pair that is printed for its member.
     ensures enclosed { result ≡ Status.Done → Asks words.now Members
         → IfSome (S.left source.old) (λ text. IfOk (parsed text) PrintsEnclosures) }
+
+    // The report of a model is written whole; in each case that is printed certified, every exact
+    // equilibrium of every realisation of the element enclosures lies in the printed bounds.
+    ensures certified { (workers : ℕ) → Asks words.now (Analyse workers)
+        → (result ≡ Status.Done) ⊎ (result ≡ Status.Uncertified)
+        → IfSome (S.left source.old) (λ text. IfOk (parsed text) (λ model. (output : List ℕ)
+        × WritesAll K.held out.old out.new output × IsReport model output result)) }
 
     // Wrong words leave the source unread.
     ensures unread { ¬ HasForm words.now → source.new ≡ source.old }

@@ -9,6 +9,7 @@ use crate::commands::{Command, command_of};
 use crate::member_table::member_table;
 use crate::one_straight::is_one_straight;
 use crate::refusal::refusal_line;
+use crate::written::Written;
 use flex_io::{Source, Status, TakeFault, take_all};
 use model_text::{TextFault, echo, read};
 use model_types::{Model, NoMemory};
@@ -119,24 +120,26 @@ fn accepted(alloc: Global, command: Command, model: &Model) -> Reply
     }
 }
 
-// What is to be written for a model, and how the run then ends.
-#[derive(Drop)]
-struct Written {
-    bytes: Vec<u8>,
-    status: Status,
-}
-
 // What the command makes of a model.
 fn output(alloc: Global, command: Command, model: &Model) -> Result<Written, NoMemory>
     requires { Takes command model.now }
     ensures { IfOk result (λ written. IsOutput command model.now written.bytes.items written.status) }
 {
-    let (bytes, status) = match command {
-        Command::Members => (member_table(alloc, model)?, Status::Done),
-        Command::Echo => (echo(alloc, model)?, Status::Done),
-        Command::Analyse { .. } => (analysis(alloc, model)?, Status::Uncertified),
-    };
-    Ok(Written { bytes, status })
+    match command {
+        Command::Members => done(member_table(alloc, model)?),
+        Command::Echo => done(echo(alloc, model)?),
+        Command::Analyse { .. } => analysis(alloc, model),
+    }
+}
+
+// An output that ends a run as done.
+fn done(bytes: Vec<u8>) -> Result<Written, NoMemory>
+    ensures { IfOk result (λ written. (written.bytes ≡ bytes) × (written.status ≡ Status.Done)) }
+{
+    Ok(Written {
+        bytes,
+        status: Status::Done,
+    })
 }
 
 // The reply to a text that is refused by this number at this line.

@@ -28,6 +28,33 @@ kappa 8 7293355829532 7293355829544
 end
 ";
 
+// The anchor gives way by 100 nm and 100 nrad, and is 1 m away.
+const CANTILEVER_LINES: &str = "\
+1 1 0
+case tip certified
+node a -1 1 -1 1 -101 -99 -1 1 99 101 -1 1
+node b -1 1 -1 1 -575286 -575285 -1 1 862728 862729 -1 1
+restraint A -1 1 -1 1 -1000001 -999999 -1 1 999999 1000001 -1 1
+";
+
+const REST_LINES: &str = "\
+1 1 0
+case rest certified
+node a 0 0 0 0 0 0 0 0 0 0 0 0
+node b 0 0 0 0 0 0 0 0 0 0 0 0
+restraint A 0 0 0 0 0 0 0 0 0 0 0 0
+";
+
+// The load stands on the anchor of its own node, but for what that gives way.
+const HELD_LINES: &str = "\
+2 1 0
+case tip certified
+node a -1 1 -1 1 -1 0 -1 1 0 1 -1 1
+node b -1 1 -1 1 -100 -99 -1 1 0 1 -1 1
+restraint A -1 1 -1 1 -695 -694 -1 1 347 348 -1 1
+restraint B -1 1 -1 1 -999306 -999305 -1 1 347 348 -1 1
+";
+
 const USAGE: &str =
     "usage: pipeflex analyse [--workers N] | members | echo | generate M | summary M [--workers N]\n";
 
@@ -237,21 +264,26 @@ force tip b 0 0 -1000000 0 0 0
 
 #[test]
 fn analyses_one_straight(rt: HostRuntime) -> Result<(), Fail> {
-    for (lines, cases) in [
+    for (lines, status, cases) in [
+        (CANTILEVER, Status::Done, CANTILEVER_LINES),
         (
-            CANTILEVER,
-            "1 1 0\ncase tip candidate\nguess a 0 0 -100 0 100 0\nguess b 0 0 -575286 0 862728 0\n",
+            "anchor A a - -\ncase rest 0 0 0 0 0 0\n",
+            Status::Done,
+            REST_LINES,
         ),
         (
-            "anchor A a - -\nanchor B b - -\ncase rest 0 0 0 0 0 0\n",
-            "2 1 0\ncase rest candidate\nguess a 0 0 0 0 0 0\nguess b 0 0 0 0 0 0\n",
+            "anchor A a - -\nanchor B b - -\ncase tip 0 0 0 0 0 0\nforce tip b 0 0 -1000000 0 0 0\n",
+            Status::Done,
+            HELD_LINES,
         ),
         (
             "anchor A a 2000000000000 -\ncase rest 0 0 0 0 0 0\n",
+            Status::Uncertified,
             "1 1 0\ncase rest uncertified width matrix a ux\n",
         ),
         (
             "anchor A a - -\ncase tip 0 0 0 0 0 0\nforce tip b 0 0 1000000000000 0 0 0\n",
+            Status::Uncertified,
             "1 1 0\ncase tip uncertified width load b uz\n",
         ),
     ] {
@@ -260,15 +292,7 @@ fn analyses_one_straight(rt: HostRuntime) -> Result<(), Fail> {
         let (text, report) = (text.as_str(), report.as_str());
         let words: [&[&str]; 2] = [&["analyse"], &["analyse", "--workers", "7"]];
         for words in words {
-            check(
-                &rt,
-                rt.alloc(),
-                words,
-                text,
-                Status::Uncertified,
-                report,
-                "",
-            )?;
+            check(&rt, rt.alloc(), words, text, status, report, "")?;
         }
     }
     Ok(())

@@ -1,4 +1,4 @@
-use Rattle.case_run.specs.Candidate.{refinement}
+use Rattle.case_run.specs.Causes.{refinement}
 use Rattle.case_run.proofs.steps.displacements_of.Goals as goal
 
 pub returns-in-Err-Wide-clause-cause : goal.returns-in-Err-Wide-clause-cause

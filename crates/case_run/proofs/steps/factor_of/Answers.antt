@@ -1,6 +1,6 @@
 use Rattle.std.proofs.Common.{to_z-of_z}
 use Rattle.case_run.proofs.Diagonal.{diagonal_positive}
-use Rattle.case_run.specs.Candidate.{pivot, wide}
+use Rattle.case_run.specs.Causes.{pivot, wide}
 use Rattle.case_run.proofs.steps.factor_of.Goals as goal
 
 pub returns-in-Ok-clause-diagonal : goal.returns-in-Ok-clause-diagonal

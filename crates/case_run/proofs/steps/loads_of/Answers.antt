@@ -1,4 +1,4 @@
-use Rattle.case_run.specs.Candidate.{load_row}
+use Rattle.case_run.specs.Causes.{load_row}
 use Rattle.case_run.proofs.steps.loads_of.Goals as goal
 
 pub returns-in-Err-Wide-clause-cause : goal.returns-in-Err-Wide-clause-cause

@@ -1,4 +1,4 @@
-use Rattle.case_run.specs.Candidate.{first_element}
+use Rattle.case_run.specs.Causes.{first_element}
 use Rattle.case_run.proofs.steps.structure_of.Goals as goal
 
 pub returns-in-Err-Wide-clause-cause : goal.returns-in-Err-Wide-clause-cause

@@ -1,13 +1,29 @@
-use Rattle.std.proofs.Common.{subst}
-use Rattle.case_run.specs.Candidate.{IsOutcome}
-use Rattle.pipeflex_top.specs.Analysis.{text_order}
-use Rattle.pipeflex_top.proofs.Outcomes.{IsCauseIn-first, IsOrder-text}
+use Rattle.std.proofs.Common.{◌≡◌, subst, sym}
+use Rattle.pipeflex_top.specs.Analysis.{EndsWith}
+use Rattle.report.specs.Fits.{AreAnswersOf}
+use Rattle.report.specs.Report.{report_of}
+use Rattle.pipeflex_top.proofs.Fits.{answers_fit}
+use Rattle.pipeflex_top.proofs.Outcomes.{IsOrder-text}
+use Rattle.pipeflex_top.proofs.Printed.{PrintBounds-always}
 use Rattle.pipeflex_top.proofs.analysis.analysis.Goals as goal
 
-pub candidate_of-requires-clause-order : goal.candidate_of-requires-clause-order
-candidate_of-requires-clause-order c = IsOrder-text
+pub answers-requires-clause-order : goal.answers-requires-clause-order
+answers-requires-clause-order c = IsOrder-text
 
-pub uncertified-requires-clause-cause : goal.uncertified-requires-clause-cause
-uncertified-requires-clause-cause c =
+pub bytes-requires : goal.bytes-requires
+bytes-requires c =
     let model = c.args.model.now in
-    IsCauseIn-first model c.in-Missing.cause c.requires.few.nodes (subst (IsOutcome model 0 text_order) c.in-Missing.is c.in_ok-u.ensures)
+    let found = c.in_ok-answers in
+    record { answers = subst (AreAnswersOf model) (sym c.deref-2.ensures.value) (answers_fit model found.answers.items c.requires found.ensures.answers) }
+
+pub returns : goal.returns
+returns c =
+    let model = c.args.model.now in
+    let found = c.in_ok-answers in
+    record {
+      answers = found.answers.items;
+      reached = found.ensures.answers;
+      written = subst (λ answers. c.in_ok-bytes.bytes.items ≡ report_of model answers) c.deref-2.ensures.value c.in_ok-bytes.ensures;
+      ends = subst (λ answers. EndsWith answers c.ending_with-status.result) c.deref.ensures.value c.ending_with-status.ensures;
+      bounds = PrintBounds-always c.printed_pairs_hold.ensures model found.answers.items found.ensures.hold;
+    }

@@ -1,8 +1,8 @@
 use Rattle.std.proofs.Common.{◌≡◌, ◌≢◌, sym, subst, ◌∙◌, inl, inr}
 use Rattle.flex_io.specs.declared.outcome.Status.{Status}
-use Rattle.flex_io.specs.declared.outcome.Status.TheVariants.{Done, ReadFault, WriteFault}
+use Rattle.flex_io.specs.declared.outcome.Status.TheVariants.{Done, Uncertified, ReadFault, WriteFault}
 use Rattle.pipeflex_top.specs.Run.{Answers, message_bytes}
-use Rattle.pipeflex_top.proofs.RunLemmas.{Decides-answer, enclosed-answer}
+use Rattle.pipeflex_top.proofs.RunLemmas.{Decides-answer, certified-answer, enclosed-answer, with_output}
 use Rattle.pipeflex_top.proofs.program.run.Goals as goal
 
 pub returns-clause-ended : goal.returns-clause-ended
@@ -24,3 +24,10 @@ returns-clause-enclosed g c = λ done members.
     let apart : ¬ (◌≡◌ {A = Status} Done WriteFault) = λ same. cc same in
     let whole : c.deliver.result ≢ WriteFault = λ broke. apart (sym done ∙ broke) in
     enclosed-answer _ _ _ _ _ _ reply.ensures.answers (sym (c.deliver.ensures.status whole) ∙ done) members
+
+pub returns-clause-certified : goal.returns-clause-certified
+returns-clause-certified g c = λ workers asks written.
+    let reply = c.reply_to-reply in
+    let whole : c.deliver.result ≢ WriteFault = λ broke. elim written [ inl done ↦ (let same : ◌≡◌ {A = Status} Done WriteFault = sym done ∙ broke in absurd (cc same)) | inr some ↦ (let same : ◌≡◌ {A = Status} Uncertified WriteFault = sym some ∙ broke in absurd (cc same)) ] in
+    let answers = subst (Answers _ _ _ _ _) (sym (c.deliver.ensures.status whole)) reply.ensures.answers in
+    with_output _ _ _ reply.result.output.items (c.deliver.ensures.out_whole whole) (certified-answer _ _ _ _ _ _ workers answers asks written)

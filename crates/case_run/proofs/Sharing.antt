@@ -1,0 +1,45 @@
+-- What all cases share: the factor's shape, and that the structures and loads of a model have the same realisations.
+use Rattle.std.proofs.Common.{◌≡◌, ℕ, ◌*◌, ◌<◌, ap, ◌∙◌, sym, arith, List, Result, Ok, Err, length}
+use Rattle.std.specs.Prelude.{IfOk, MatchResult, ℤ}
+use Rattle.flex_interval.specs.Ends.{Ends}
+use Rattle.member_set.specs.declared.members.Built.{Built}
+use Rattle.member_set.specs.declared.members.Member.{Member}
+use Rattle.member_set.specs.Members.{node_count as nodes_of, load_of}
+use Rattle.member_set.specs.Realisation.{Realisation, IsRealisation}
+use Rattle.model_types.specs.Lists.{Lists}
+use Rattle.model_types.specs.declared.answers.Cause.{Cause}
+use Rattle.sym_blocks.specs.Matrix.{Matrix}
+use Rattle.factor_data.specs.Columns.{Columns}
+use Rattle.structure.specs.Structure.{IsStructureOf}
+use Rattle.load_vectors.specs.Loads.{AreLoads}
+use Rattle.case_run.specs.Causes.{Plan, resting_laws, IsFactorAt}
+use Rattle.case_run.specs.Steps.{HasDiagonal, IsFactorFor}
+
+pub factor_for : (b : Built) (p : Plan) (middles : Matrix) (shift : ℤ) (Q : Cause → Type 0) (r : Result Columns Cause) →
+    length p.order ≡ nodes_of b → MatchResult r (IsFactorAt p middles shift) Q → IfOk r HasDiagonal → IfOk r (IsFactorFor b)
+factor_for b p middles shift Q (Ok f) nodes factor diagonal =
+    record { nodes_are = ap (λ (xs : List ℕ). length xs) factor.order_is ∙ nodes; diagonal = diagonal }
+factor_for b p middles shift Q (Err cause) nodes factor diagonal = diagonal
+
+same_load : (m : Lists) (case : ℕ) (loads others : List Ends) (row : ℕ) → AreLoads m case loads → AreLoads m case others →
+    row < 6 * length m.nodes → load_of others row ≡ load_of loads row
+same_load m case loads others row loaded loaded_too inside =
+    let one = loaded.value row inside in
+    let other = loaded_too.value row inside in
+    cc
+
+pub same_realisations : (m : Lists) (case : ℕ) (b other : Built) (loads others : List Ends) (r : Realisation) →
+    IsStructureOf m b → IsStructureOf m other → AreLoads m case loads → AreLoads m case others →
+    IsRealisation other (resting_laws other) others r → IsRealisation b (resting_laws b) loads r
+same_realisations m case b other loads others r structure structure_too loaded loaded_too real =
+    let one = structure.members in
+    let two = structure_too.members in
+    let same : other.members ≡ b.members = cc in
+    record {
+      positive = real.positive;
+      all_rows = omega (arith, real.all_rows, structure.nodes, structure_too.nodes);
+      all_members = real.all_members ∙ ap (λ (xs : List Member). length xs) same;
+      member_within = λ k inside. rw same at (real.member_within k inside);
+      load_within = λ row inside.
+          rw (sym (same_load m case loads others row loaded loaded_too (omega (arith, real.all_rows, structure_too.nodes)))) (real.load_within row inside);
+    }

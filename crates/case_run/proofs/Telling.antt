@@ -1,0 +1,41 @@
+-- What an answer says that tells the bounds of an enclosure.
+use Rattle.std.proofs.Common.{◌≡◌, ℕ, ◌+◌, ap, ◌∙◌, List, map, drop, get_or}
+use Rattle.std.proofs.Math.ListN.{get_or-map}
+use Rattle.std.proofs.lemmas.List.{get_or-drop}
+use Rattle.flex_interval.specs.Ends.{Ends}
+use Rattle.member_set.specs.Members.{nothing}
+use Rattle.member_set.specs.Realisation.{Vector, Realisation}
+use Rattle.model_types.specs.Lists.{Lists}
+use Rattle.model_types.specs.declared.answers.Bounds.{Bounds}
+use Rattle.model_types.specs.declared.answers.CaseAnswer.{CaseAnswer}
+use Rattle.model_types.specs.declared.answers.CaseAnswer.TheVariants.{Certified, Uncertified}
+use Rattle.certificate.specs.declared.bounds.Enclosure.{Enclosure}
+use Rattle.certificate.specs.Bounds.{EnclosesEquilibrium}
+use Rattle.case_run.specs.Causes.{Plan}
+use Rattle.case_run.specs.Certified.{IsCertified, IsCaseAnswer, TellsBounds, bounds_of, element_member_count}
+use Rattle.case_run.specs.Equilibria.{AreWithin, OfEquilibria, HoldsAlways, ends_of, ends_at}
+
+pub told_answer : (m : Lists) (case : ℕ) (p : Plan) (e : Enclosure) (a : CaseAnswer) →
+    TellsBounds (element_member_count m) e a → IsCertified m case p e → IsCaseAnswer m case p a
+told_answer m case p e (Certified u loads states) tells bounds = (e, bounds, tells)
+told_answer m case p e (Uncertified cause guess) tells bounds = absurd tells
+
+ends_at-map : (es : List Ends) (k : ℕ) → ends_at (map bounds_of es) k ≡ get_or es k nothing
+ends_at-map es k = ap ends_of (get_or-map bounds_of es k nothing)
+
+ends_at-drop : (first : ℕ) (es : List Ends) (k : ℕ) → ends_at (map bounds_of (drop first es)) k ≡ get_or es (first + k) nothing
+ends_at-drop first es k = ends_at-map (drop first es) k ∙ get_or-drop first es k nothing
+
+told_within : (first : ℕ) (e : Enclosure) (u loads : List Bounds) (r : Realisation) (exact : Vector) →
+    u ≡ map bounds_of e.u → loads ≡ map bounds_of (drop first e.force) → EnclosesEquilibrium e r exact → AreWithin r exact first u loads
+told_within first e u loads r exact u_is loads_are encloses =
+    record {
+      displacement = λ row inside. rw (u_is, ends_at-map e.u row) (encloses.displacement row inside);
+      load = λ k inside. rw (loads_are, ends_at-drop first e.force k) (encloses.force (first + k) inside);
+    }
+
+pub told_holds : (m : Lists) (case : ℕ) (e : Enclosure) (a : CaseAnswer) →
+    TellsBounds (element_member_count m) e a → OfEquilibria m case (EnclosesEquilibrium e) → HoldsAlways m case a
+told_holds m case e (Certified u loads states) tells encloses = λ b case_loads r exact structure loaded real balance.
+    told_within (element_member_count m) e u loads r exact tells.0 tells.1 (encloses b case_loads r exact structure loaded real balance)
+told_holds m case e (Uncertified cause guess) tells encloses = absurd tells

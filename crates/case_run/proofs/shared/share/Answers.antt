@@ -1,0 +1,40 @@
+use Rattle.std.proofs.Common.{◌∙◌, sym, to_z-of_z, rules, FitsSigned}
+use Rattle.std.specs.Int.{w128}
+use Rattle.std.proofs.lemmas.Result.{err_from_is_err_and}
+use Rattle.case_run.specs.Causes.{plan, resting_laws}
+use Rattle.case_run.specs.Certified.{no_matrices, no_margin}
+use Rattle.case_run.proofs.Faults.{names_also}
+use Rattle.case_run.proofs.Definite.{definite_realisation}
+use Rattle.case_run.proofs.Sharing.{factor_for}
+use Rattle.case_run.proofs.shared.share.Goals as goal
+
+pub returns-in_err-middles-clause-cause : goal.returns-in_err-middles-clause-cause
+returns-in_err-middles-clause-cause c =
+    let p = err_from_is_err_and c.from_residual-in_err-middles.result c.from_residual-in_err-middles.ensures.1 in
+    rw (p.1, p.2)
+    (names_also _ _ c.in_err-middles.field-0.0 (λ cause is. no_matrices c.in_ok-b.b c.in_ok-b.ensures.structure is) c.in_err-middles.ensures.cause)
+
+pub returns-in_err-lambda-clause-cause : goal.returns-in_err-lambda-clause-cause
+returns-in_err-lambda-clause-cause c =
+    let p = err_from_is_err_and c.from_residual-in_err-lambda.result c.from_residual-in_err-lambda.ensures.1 in
+    rw (p.1, p.2)
+    (names_also _ _ c.in_err-lambda.field-0.0
+    (λ cause is. no_margin c.in_ok-b.b c.in_ok-middles.middles c.in_ok-middles.radii c.in_ok-b.ensures.structure c.in_ok-middles.ensures.assembled c.in_ok-middles.ensures.factorable.nodes_are is)
+    c.in_err-lambda.ensures.cause)
+
+pub returns-clause-ready : goal.returns-clause-ready
+returns-clause-ready c =
+    let fits : FitsSigned w128 c.in_ok-lambda.lambda = search rules in
+    record {
+      structure = c.in_ok-b.ensures.structure;
+      stiff = c.in_ok-b.ensures.stiff;
+      laws = c.in_ok-laws.ensures;
+      positive = rw (to_z-of_z fits) c.in_ok-lambda.ensures.positive;
+      definite = λ loads r real.
+          rw (to_z-of_z fits)
+          (definite_realisation c.in_ok-b.b (resting_laws c.in_ok-b.b) loads r c.in_ok-middles.middles c.in_ok-middles.radii c.in_ok-lambda.lambda
+          c.in_ok-middles.ensures.factorable.nodes_are c.in_ok-lambda.ensures.definite real (c.in_ok-middles.ensures.within loads r real));
+      factor =
+          factor_for c.in_ok-b.b (plan c.args.order.now c.args.parents.now) c.in_ok-middles.middles _ _ c.in_ok-factor.factor
+          (c.requires.nodes ∙ sym c.in_ok-b.ensures.structure.nodes) c.in_ok-factor.ensures.factor c.in_ok-factor.ensures.diagonal;
+    }

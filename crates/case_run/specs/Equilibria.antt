@@ -1,0 +1,42 @@
+-- What the answer of a case says of every equilibrium: of no matrix, factor or rounding.
+use Rattle.std.specs.Prelude.{ℕ, ◌+◌, ◌<◌, ⊤, List, slice_index_or, slice_get, ◌≡◌, Some}
+use Rattle.flex_interval.specs.Ends.{Ends}
+use Rattle.flex_interval.specs.Fraction.{Within}
+use Rattle.member_set.specs.declared.members.Built.{Built}
+use Rattle.member_set.specs.Members.{nothing}
+use Rattle.member_set.specs.Realisation.{Vector, Realisation, IsRealisation, IsEquilibrium, force_in, fraction, force_fraction}
+use Rattle.model_types.specs.Lists.{Lists}
+use Rattle.model_types.specs.declared.answers.Bounds.{Bounds}
+use Rattle.model_types.specs.declared.answers.CaseAnswer.{CaseAnswer}
+use Rattle.model_types.specs.declared.answers.CaseAnswer.TheVariants.{Certified, Uncertified}
+use Rattle.structure.specs.Structure.{IsStructureOf}
+use Rattle.load_vectors.specs.Loads.{AreLoads}
+use Rattle.case_run.specs.Causes.{resting_laws}
+use Rattle.case_run.specs.Certified.{bounds_of, element_member_count}
+
+abbrev pub ends_of : Bounds → Ends
+ends_of b = record { lo = b.lo; hi = b.hi }
+
+-- the bounds at a place of a list
+abbrev pub ends_at : List Bounds → ℕ → Ends
+ends_at bounds place = ends_of (slice_index_or bounds place (bounds_of nothing))
+
+-- each displacement, and the force of each member from `first` on, is within its bounds
+pub record AreWithin (r : Realisation) (exact : Vector) (first : ℕ) (u loads : List Bounds) : Type 0 where
+  pub displacement : (row : ℕ) → row < r.rows → Within (ends_at u row) (fraction (exact row) r.denominator)
+  pub load : (k : ℕ) → first + k < r.members → Within (ends_at loads k) (force_fraction r.denominator (force_in r exact (first + k)))
+
+-- a fact of every equilibrium of every realisation of the model's structure under the loads of the case
+abbrev pub OfEquilibria : Lists → ℕ → (Realisation → Vector → Type 0) → Type 0
+OfEquilibria m case IsSo =
+    (b : Built) (loads : List Ends) (r : Realisation) (exact : Vector) → IsStructureOf m b → AreLoads m case loads →
+    IsRealisation b (resting_laws b) loads r → IsEquilibrium r exact → IsSo r exact
+
+-- certified bounds hold in every equilibrium
+abbrev pub HoldsAlways : Lists → ℕ → CaseAnswer → Type 0
+HoldsAlways m case (Certified u loads states) = OfEquilibria m case (λ r exact. AreWithin r exact (element_member_count m) u loads)
+HoldsAlways m case (Uncertified cause guess) = ⊤
+
+-- each answer does
+abbrev pub HoldAlways : Lists → List CaseAnswer → Type 0
+HoldAlways m answers = (case : ℕ) (a : CaseAnswer) → slice_get answers case ≡ Some a → HoldsAlways m case a

@@ -1,0 +1,147 @@
+ghost use Rattle.std.specs.Prelude.{◌≡◌, ◌<◌, ℕ, length, map, drop, replicate, [], IfOk, IfErr, All};
+ghost use Rattle.case_run.specs.Causes.{plan, Plan};
+ghost use Rattle.case_run.specs.Certified.{IsCertified, IsUncertified, IsCaseAnswer, AreCaseAnswers, TellsBounds, bounds_of, element_member_count};
+ghost use Rattle.case_run.specs.Equilibria.{OfEquilibria, HoldsAlways, HoldAlways};
+ghost use Rattle.case_run.specs.Shared.{IsReady, IsShared};
+ghost use Rattle.case_run.specs.Steps.{Names};
+ghost use Rattle.certificate.specs.Bounds.{EnclosesEquilibrium};
+ghost use Rattle.factor.specs.State.{AreParents};
+ghost use Rattle.factor_data.specs.Order.{IsOrder};
+ghost use Rattle.load_vectors.specs.Loads.{HasForcesAlone, case_at};
+ghost use Rattle.structure.specs.Anchors.{HasAnchorsAlone};
+
+use crate::fault::CaseFault;
+use crate::shared::{Shared, share};
+use crate::steps::{bounds_around, displacements_of, loads_of};
+use certificate::Enclosure;
+use flex_interval::Iv;
+use model_types::{Bounds, CaseAnswer, CaseId, Cause, Model, NoMemory, Values};
+use std::alloc::{AllocError, Global};
+
+/// The answer of each case of a model in whose cases nothing but forces acts: certified bounds, or the first cause why there
+/// are none. The nodes are eliminated in `order`, and `parents` has the parent of each of its places.
+pub fn answers(
+    alloc: Global,
+    m: &Model,
+    order: &[u32],
+    parents: &[Option<u32>],
+) -> Result<Vec<CaseAnswer>, NoMemory>
+    requires anchors { HasAnchorsAlone m.now }
+    requires forces_alone { (case : ℕ) → case < length m.now.cases → HasForcesAlone (case_at m.now case) }
+    requires order { IsOrder order.now }
+    requires nodes { length order.now ≡ length m.now.nodes }
+    requires parents_count { length parents.now ≡ length order.now }
+    requires parents_later { AreParents parents.now (length order.now) }
+    ensures answers { IfOk result (λ answers. AreCaseAnswers m.now (plan order.now parents.now) answers.items) }
+    ensures hold { IfOk result (λ answers. HoldAlways m.now answers.items) }
+{
+    // What every model keeps: it has a node, and not many.
+    let _nodes = m.nodes();
+    match share(alloc, m, order, parents) {
+        Ok(shared) => each_answer(alloc, m, &shared),
+        Err(CaseFault::Because(cause)) => same_answers(alloc, m, cause),
+        Err(CaseFault::NoMemory) => Err(AllocError),
+    }
+}
+
+/// The answers where a cause is that of every case.
+fn same_answers(alloc: Global, m: &Model, cause: Cause) -> Result<Vec<CaseAnswer>, AllocError>
+    ensures { IfOk result (λ answers. answers.items ≡ replicate (length m.now.cases) (CaseAnswer.Uncertified cause [])) }
+{
+    let cases = m.cases().len();
+    let mut answers = Vec::with_capacity(alloc, cases)?;
+    for _case in 0..cases {
+        answers.push(uncertified(alloc, cause))?;
+    }
+    Ok(answers)
+}
+
+/// The answers, case by case.
+fn each_answer(alloc: Global, m: &Model, shared: &Shared) -> Result<Vec<CaseAnswer>, AllocError>
+    requires forces_alone { (case : ℕ) → case < length m.now.cases → HasForcesAlone (case_at m.now case) }
+    requires ready { IsReady m.now shared.now }
+    ensures answers { IfOk result (λ answers. (p : Plan) → IsShared m.now p shared.now → AreCaseAnswers m.now p answers.items) }
+    ensures hold { IfOk result (λ answers. HoldAlways m.now answers.items) }
+{
+    let cases = m.cases().len();
+    let mut answers = Vec::with_capacity(alloc, cases)?;
+    for case in 0..cases {
+        answers.push(case_answer(alloc, m, CaseId(case as u32), shared)?)?;
+    }
+    Ok(answers)
+}
+
+/// The answer of a case.
+fn case_answer(
+    alloc: Global,
+    m: &Model,
+    case: CaseId,
+    shared: &Shared,
+) -> Result<CaseAnswer, AllocError>
+    requires case_in_range { case.0 < length m.now.cases }
+    requires forces_alone { HasForcesAlone (case_at m.now case.0) }
+    requires ready { IsReady m.now shared.now }
+    ensures answer { IfOk result (λ a. (p : Plan) → IsShared m.now p shared.now → IsCaseAnswer m.now case.0 p a) }
+    ensures holds { IfOk result (HoldsAlways m.now case.0) }
+{
+    match enclosure_of(alloc, m, case, shared) {
+        Ok(e) => certified(alloc, &e, 8 * m.elements().len()),
+        Err(CaseFault::Because(cause)) => Ok(uncertified(alloc, cause)),
+        Err(CaseFault::NoMemory) => Err(AllocError),
+    }
+}
+
+/// The bounds of a case.
+fn enclosure_of(
+    alloc: Global,
+    m: &Model,
+    case: CaseId,
+    shared: &Shared,
+) -> Result<Enclosure, CaseFault>
+    requires case_in_range { case.0 < length m.now.cases }
+    requires forces_alone { HasForcesAlone (case_at m.now case.0) }
+    requires ready { IsReady m.now shared.now }
+    ensures bounds { IfOk result (λ e. (p : Plan) → IsShared m.now p shared.now → IsCertified m.now case.0 p e) }
+    ensures encloses { IfOk result (λ e. OfEquilibria m.now case.0 (EnclosesEquilibrium e)) }
+    ensures cause { IfErr result (λ f. (p : Plan) → IsShared m.now p shared.now → Names (IsUncertified m.now case.0 p) f) }
+{
+    let loads = loads_of(alloc, m, case)?;
+    let factor = match &shared.factor {
+        Ok(factor) => factor,
+        Err(cause) => return Err(CaseFault::Because(*cause)),
+    };
+    let u = displacements_of(alloc, &shared.b, &shared.laws, &loads, factor)?;
+    bounds_around(alloc, &shared.b, &shared.laws, &loads, &u, shared.lambda)
+}
+
+/// The answer with bounds: of all displacements, and of the forces of the members from `first` on.
+fn certified(alloc: Global, e: &Enclosure, first: usize) -> Result<CaseAnswer, AllocError>
+    ensures { IfOk result (TellsBounds first e.now) }
+{
+    Ok(CaseAnswer::Certified {
+        u: Values::new(bounds_from(alloc, e.u.as_slice(), 0)?),
+        loads: Values::new(bounds_from(alloc, e.force.as_slice(), first)?),
+        states: Values::new(Vec::new(alloc)),
+    })
+}
+
+/// The answer without bounds.
+fn uncertified(alloc: Global, cause: Cause) -> CaseAnswer
+    ensures { result ≡ CaseAnswer.Uncertified cause [] }
+{
+    CaseAnswer::Uncertified {
+        cause,
+        guess: Values::new(Vec::new(alloc)),
+    }
+}
+
+/// The intervals from `first` on as bounds.
+fn bounds_from(alloc: Global, intervals: &[Iv], first: usize) -> Result<Vec<Bounds>, AllocError>
+    ensures { IfOk result (λ bounds. bounds.items ≡ map bounds_of (drop first intervals.now)) }
+{
+    intervals
+        .iter()
+        .skip(first)
+        .map(|e| Bounds { lo: e.lo, hi: e.hi })
+        .collect(alloc)
+}

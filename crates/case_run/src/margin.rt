@@ -1,0 +1,80 @@
+ghost use Rattle.std.specs.Prelude.{◌≡◌, ◌<◌, ◌≤◌, ℕ, length, IfOk, IfErr, ℤ, pos, ◌≤ℤ◌, ◌^◌};
+ghost use Rattle.case_run.specs.Causes.{plan};
+ghost use Rattle.case_run.specs.Certified.{shift_of, last_place, ShiftPasses, ShiftFails, IsMargin, HasNoMargin};
+ghost use Rattle.case_run.specs.Steps.{Names, IsFactorable, IsPlan, AreRadii, AreDefinite};
+
+use crate::fault::CaseFault;
+use crate::steps::factor_of;
+use certificate::{CheckSpace, Verdict, check_definite};
+use model_types::{Cause, NodeId};
+use std::alloc::Global;
+use sym_blocks::SymBlocks;
+
+/// The place of the last shift: the shifts go from 2^44 down to 2^10 by factors of 4.
+const LAST_PLACE: u32 = 17;
+
+/// The shift at a place, in units of 2^-20 N/m.
+fn shift_of(place: u32) -> i128
+    requires { place ≤ 17 }
+    ensures value { result ≡ shift_of place }
+    ensures low { pos 0 ≤ℤ result }
+    ensures high { result ≤ℤ pos (2 ^ 44) }
+{
+    1 << (44 - 2 * place)
+}
+
+/// The margin at a shift, in units of 2^-20 N/m.
+fn margin_at(
+    alloc: Global,
+    middles: &SymBlocks,
+    radii: &SymBlocks,
+    order: &[u32],
+    parents: &[Option<u32>],
+    shift: i128,
+) -> Result<i128, CaseFault>
+    requires plan { IsPlan order.now parents.now }
+    requires factorable { IsFactorable (length order.now) middles.now }
+    requires radii { AreRadii (length order.now) radii.now }
+    requires shift_low { pos 0 ≤ℤ shift }
+    requires shift_high { shift ≤ℤ pos (2 ^ 44) }
+    ensures passes { IfOk result (ShiftPasses (plan order.now parents.now) middles.now radii.now shift) }
+    ensures positive { IfOk result (λ lambda. pos 1 ≤ℤ lambda) }
+    ensures definite { IfOk result (AreDefinite middles.now radii.now) }
+    ensures fails { IfErr result (Names (ShiftFails (plan order.now parents.now) middles.now radii.now shift)) }
+{
+    let factor = factor_of(alloc, middles, order, parents, shift)?;
+    let mut space = CheckSpace::new(alloc, &factor)?;
+    match check_definite(middles, radii, &factor, shift, &mut space) {
+        Verdict::Yes { lambda } => Ok(lambda),
+        Verdict::No { row } => Err(CaseFault::Because(Cause::Margin {
+            node: NodeId(row / 6),
+            freedom: row % 6,
+        })),
+    }
+}
+
+/// The margin at the first shift that passes. Where none does, the cause is that of the last.
+pub(crate) fn margin_of(
+    alloc: Global,
+    middles: &SymBlocks,
+    radii: &SymBlocks,
+    order: &[u32],
+    parents: &[Option<u32>],
+) -> Result<i128, CaseFault>
+    requires plan { IsPlan order.now parents.now }
+    requires factorable { IsFactorable (length order.now) middles.now }
+    requires radii { AreRadii (length order.now) radii.now }
+    ensures margin { IfOk result (IsMargin (plan order.now parents.now) middles.now radii.now) }
+    ensures positive { IfOk result (λ lambda. pos 1 ≤ℤ lambda) }
+    ensures definite { IfOk result (AreDefinite middles.now radii.now) }
+    ensures cause { IfErr result (Names (HasNoMargin (plan order.now parents.now) middles.now radii.now)) }
+{
+    for place in 0..LAST_PLACE {
+        match margin_at(alloc, middles, radii, order, parents, shift_of(place)) {
+            Ok(lambda) => return Ok(lambda),
+            Err(CaseFault::NoMemory) => return Err(CaseFault::NoMemory),
+            Err(CaseFault::Because(_)) => {}
+        }
+    }
+    margin_at(alloc, middles, radii, order, parents, shift_of(LAST_PLACE))
+}
