@@ -22,7 +22,7 @@ use Rattle.flex_interval.specs.Ends.{Ends}
 use Rattle.member_set.specs.declared.members.Law.{Law}
 use Rattle.member_set.specs.Realisation.{Realisation, IsRealisation}
 use Rattle.member_set.proofs.Rows.{nothing_is_zero}
-use Rattle.sym_blocks.specs.Matrix.{entry, IsSymmetricByBlocks}
+use Rattle.sym_blocks.specs.Matrix.{entry, node_count as nodes_of, IsSymmetricByBlocks}
 use Rattle.assembly.proofs.Outside.{off_node, product_zero}
 use Rattle.assembly.specs.Stiffness.{AreAssembled, exact_entry, entry_unit, IsNear}
 use Rattle.assembly.specs.Stiffness.{stiffness_at, HasPatternOf, IsFirstWide, touches, entry_term, entry_sum, upper_entry, Joins, AreJoined}
@@ -161,10 +161,30 @@ exact_symmetric r i j =
     turned : (a s b : ℤ) → a *ℤ (s *ℤ b) ≡ b *ℤ (s *ℤ a)
     turned a s b = mul_swap a s b ∙ ap (λ (z : ℤ). s *ℤ z) (mul_comm a b) ∙ mul_swap s b a
 
+-- a node that is joined is there
+node_there : (b : Built) (n k : ℕ) → IsBuilt b → AreJoined b n k → n < node_count b
+node_there b n k built (inl f) = f.1
+node_there b n k built (inr f) =
+    elim f.2 [
+      | inl ends ↦ omega (arith, built.first_node f.0 f.1, ends.0)
+      | inr ends ↦ omega (arith, built.second_node f.0 f.1, ends.1)
+    ]
+
+-- a matrix with a structure's pattern has the structure's nodes
+same_nodes : (b : Built) (m : Matrix) → IsBuilt b → IsSymmetricByBlocks m → HasPatternOf m b → nodes_of m ≡ node_count b
+same_nodes b m built kept pattern =
+    let no_more : node_count b < nodes_of m → ⊥ = λ more.
+    let there = node_there b (node_count b) (node_count b) built ((pattern (node_count b) (node_count b)).0 (kept.own (node_count b) more)) in omega arith in
+    let no_less : nodes_of m < node_count b → ⊥ = λ less.
+    let there = kept.in_range (nodes_of m) (nodes_of m) ((pattern (nodes_of m) (nodes_of m)).1 (inl (refl, less))) in omega arith in
+    omega arith
+
 pub assembled : (b : Built) → IsBuilt b → (km rd : Matrix) → IsSymmetricByBlocks km → IsSymmetricByBlocks rd → HasPatternOf km b → HasPatternOf rd b →
     ((i j : ℕ) → i < row_count b → i ≤ j → HasBlock km (i / 6) (j / 6) → IsFilled b km rd i j) → AreAssembled b km rd
 assembled b built km rd middles radii pattern pattern_too filled =
     record {
+      middles_nodes = same_nodes b km built middles pattern;
+      radii_nodes = same_nodes b rd built radii pattern_too;
       middles_pattern = pattern;
       radii_pattern = pattern_too;
       entries = λ i j i_inside j_inside.

@@ -10,7 +10,7 @@ use Rattle.member_set.specs.declared.members.Built.{Built}
 use Rattle.member_set.specs.Members.{nothing, shape_at, member_of, members_at, node_count, row_count}
 use Rattle.member_set.specs.Realisation.{Realisation}
 use Rattle.member_set.specs.Interval.{Outcome, in_turn}
-use Rattle.sym_blocks.specs.Matrix.{Matrix, entry, HasBlock}
+use Rattle.sym_blocks.specs.Matrix.{Matrix, node_count as nodes_of, entry, HasBlock}
 use Rattle.assembly.specs.declared.fault.AssembleFault.{AssembleFault}
 use Rattle.assembly.specs.declared.fault.AssembleFault.TheVariants as faults
 
@@ -76,6 +76,8 @@ HasPatternOf m b = (n k : ℕ) → HasBlock m n k ↔ AreJoined b n k
 
 -- the middles and the radii of all members' stiffness matrix
 pub record AreAssembled (b : Built) (middles radii : Matrix) : Type 0 where
+  pub middles_nodes : nodes_of middles ≡ node_count b
+  pub radii_nodes : nodes_of radii ≡ node_count b
   pub middles_pattern : HasPatternOf middles b
   pub radii_pattern : HasPatternOf radii b
   pub entries : (i j : ℕ) → i < row_count b → j < row_count b → AreOf (stiffness_at b i j) (entry middles i j) (entry radii i j)

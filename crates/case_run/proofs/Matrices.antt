@@ -1,32 +1,15 @@
--- The assembled matrices: how many nodes they have, and how large their entries are.
-use Rattle.std.proofs.Common.{◌≡◌, ℕ, ◌+◌, ◌*◌, ◌^◌, ◌<◌, ◌≤◌, inl, inr, Bool, true, false, Ok, Err, nat_lt, refl, subst, arith, unsigned_abs, pos, ◌<ℤ◌, ◌≤ℤ◌, if◌then◌else◌}
+-- How large the entries of the assembled matrices are.
+use Rattle.std.proofs.Common.{◌≡◌, ℕ, ◌+◌, ◌*◌, ◌^◌, ◌<◌, ◌≤◌, Bool, true, false, Ok, Err, nat_lt, refl, subst, arith, unsigned_abs, pos, ◌<ℤ◌, ◌≤ℤ◌, if◌then◌else◌}
 use Rattle.std.proofs.lemmas.Int.{ints}
 use Rattle.std.proofs.lemmas.Bool.Decides.{nat_tests}
 use Rattle.flex_interval.specs.Ends.{Ends}
 use Rattle.flex_interval.specs.Operations.{and_then}
 use Rattle.flex_interval.specs.declared.fault.IvFault.TheVariants.{Wide}
 use Rattle.member_set.specs.declared.members.Built.{Built}
-use Rattle.member_set.specs.Members.{IsBuilt, node_count as nodes_of, row_count}
+use Rattle.member_set.specs.Members.{node_count as nodes_of, row_count}
 use Rattle.member_set.specs.Interval.{Outcome}
 use Rattle.sym_blocks.specs.Matrix.{Matrix, node_count, entry, IsSymmetricByBlocks}
-use Rattle.assembly.specs.Stiffness.{AreAssembled, AreJoined, HasPatternOf, middle_of, radius_of, limited_entry, entry_sum}
-
--- a node that is joined is there
-node_there : (b : Built) (n k : ℕ) → IsBuilt b → AreJoined b n k → n < nodes_of b
-node_there b n k built (inl f) = f.1
-node_there b n k built (inr f) =
-    elim f.2 [
-      | inl ends ↦ omega (arith, built.first_node f.0 f.1, ends.0)
-      | inr ends ↦ omega (arith, built.second_node f.0 f.1, ends.1)
-    ]
-
-pub same_nodes : (b : Built) (m : Matrix) → IsBuilt b → IsSymmetricByBlocks m → HasPatternOf m b → node_count m ≡ nodes_of b
-same_nodes b m built kept pattern =
-    let no_more : nodes_of b < node_count m → ⊥ = λ more.
-    let there = node_there b (nodes_of b) (nodes_of b) built ((pattern (nodes_of b) (nodes_of b)).0 (kept.own (nodes_of b) more)) in omega arith in
-    let no_less : node_count m < nodes_of b → ⊥ = λ less.
-    let there = kept.in_range (node_count m) (node_count m) ((pattern (node_count m) (node_count m)).1 (inl (refl, less))) in omega arith in
-    omega arith
+use Rattle.assembly.specs.Stiffness.{AreAssembled, middle_of, radius_of, limited_entry, entry_sum}
 
 -- the sizes of an enclosure's middle and radius
 abbrev sizes : Ends → ℕ
@@ -52,10 +35,10 @@ entry_limited b i j false e same = enclosure_small _ e same
 past_rows : (m : Matrix) (i j : ℕ) → IsSymmetricByBlocks m → 6 * node_count m ≤ i → entry m i j ≡ pos 0
 past_rows m i j kept past = kept.outside i j (λ block. omega (arith, kept.in_range _ _ (kept.converse _ _ block)))
 
-pub middles_small : (b : Built) (middles radii : Matrix) → IsBuilt b → IsSymmetricByBlocks middles → AreAssembled b middles radii →
+pub middles_small : (b : Built) (middles radii : Matrix) → IsSymmetricByBlocks middles → AreAssembled b middles radii →
     (i j : ℕ) → unsigned_abs (entry middles i j) < 2 ^ 60
-middles_small b middles radii built kept assembled i j =
-    let same = same_nodes b middles built kept assembled.middles_pattern in
+middles_small b middles radii kept assembled i j =
+    let same = assembled.middles_nodes in
     elim (nat_lt i (row_count b)) as (λ t. nat_lt i (row_count b) ≡ t → unsigned_abs (entry middles i j) < 2 ^ 60) [
       | false ↦ λ past. rw (past_rows middles i j kept (grind (arith, nat_tests))) (omega arith)
       | true ↦ λ row. elim (nat_lt j (row_count b)) as (λ t. nat_lt j (row_count b) ≡ t → unsigned_abs (entry middles i j) < 2 ^ 60) [
@@ -68,10 +51,10 @@ middles_small b middles radii built kept assembled i j =
     ] refl
 
 -- a radius is below its limit
-pub radii_below : (b : Built) (middles radii : Matrix) → IsBuilt b → IsSymmetricByBlocks radii → AreAssembled b middles radii →
+pub radii_below : (b : Built) (middles radii : Matrix) → IsSymmetricByBlocks radii → AreAssembled b middles radii →
     (i j : ℕ) → entry radii i j <ℤ pos (2 ^ 60)
-radii_below b middles radii built kept assembled i j =
-    let same = same_nodes b radii built kept assembled.radii_pattern in
+radii_below b middles radii kept assembled i j =
+    let same = assembled.radii_nodes in
     elim (nat_lt i (row_count b)) as (λ t. nat_lt i (row_count b) ≡ t → entry radii i j <ℤ pos (2 ^ 60)) [
       | false ↦ λ past. rw (past_rows radii i j kept (grind (arith, nat_tests))) (omega arith)
       | true ↦ λ row. elim (nat_lt j (row_count b)) as (λ t. nat_lt j (row_count b) ≡ t → entry radii i j <ℤ pos (2 ^ 60)) [
@@ -83,10 +66,9 @@ radii_below b middles radii built kept assembled i j =
       ] refl
     ] refl
 
-pub radii_not_negative : (b : Built) (radii : Matrix) → IsBuilt b → IsSymmetricByBlocks radii → HasPatternOf radii b →
+pub radii_not_negative : (b : Built) (radii : Matrix) → IsSymmetricByBlocks radii → node_count radii ≡ nodes_of b →
     ((i j : ℕ) → i < row_count b → j < row_count b → pos 0 ≤ℤ entry radii i j) → (i j : ℕ) → pos 0 ≤ℤ entry radii i j
-radii_not_negative b radii built kept pattern inside i j =
-    let same = same_nodes b radii built kept pattern in
+radii_not_negative b radii kept same inside i j =
     elim (nat_lt i (row_count b)) as (λ t. nat_lt i (row_count b) ≡ t → pos 0 ≤ℤ entry radii i j) [
       | false ↦ λ past. rw (past_rows radii i j kept (grind (arith, nat_tests))) (omega arith)
       | true ↦ λ row. elim (nat_lt j (row_count b)) as (λ t. nat_lt j (row_count b) ≡ t → pos 0 ≤ℤ entry radii i j) [

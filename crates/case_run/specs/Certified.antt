@@ -8,8 +8,7 @@ use Rattle.model_types.specs.declared.answers.Cause.{Cause}
 use Rattle.model_types.specs.declared.answers.Cause.TheVariants as causes
 use Rattle.model_types.specs.declared.answers.CaseAnswer.{CaseAnswer}
 use Rattle.model_types.specs.declared.answers.CaseAnswer.TheVariants.{Certified, Uncertified}
-use Rattle.member_set.specs.Members.{node_count}
-use Rattle.sym_blocks.specs.Matrix.{Matrix, node_count as nodes_of}
+use Rattle.sym_blocks.specs.Matrix.{Matrix}
 use Rattle.assembly.specs.Stiffness.{AreAssembled}
 use Rattle.factor_data.specs.Columns.{Columns}
 use Rattle.solve.specs.Refinement.{problem, IsCandidate}
@@ -70,12 +69,12 @@ pub record IsCertifiable (m : Lists) (p : Plan) (b : Built) (middles : Matrix) (
   pub assembled : AreAssembled b middles radii
   pub margin : IsMargin p middles radii lambda
 
--- the first cause for which no case of the model is certified; the middles have no nodes but the structure's
+-- the first cause for which no case of the model is certified
 pub data IsModelCause (m : Lists) (p : Plan) (cause : Cause) : Type 0 where
   no_structure : IsElementCause m cause → IsModelCause m p cause
   no_matrices : (b : Built) → IsStructureOf m b → IsMatrixCause b cause → IsModelCause m p cause
   no_margin : (b : Built) (middles radii : Matrix) → IsStructureOf m b → AreAssembled b middles radii
-      → nodes_of middles ≡ node_count b → HasNoMargin p middles radii cause → IsModelCause m p cause
+      → HasNoMargin p middles radii cause → IsModelCause m p cause
 
 -- ---- a case
 

@@ -106,8 +106,8 @@ shift_inside m middles radii shift cause two nodes (row_fails factor row factori
 model_inside : (m : Lists) (cause : Cause) → length m.nodes ≡ 2 → IsModelCause m text_order cause → IsCauseIn m cause
 model_inside m cause two (no_structure first) = element_inside m cause first
 model_inside m cause two (no_matrices b structure first) = matrix_inside m b cause structure first
-model_inside m cause two (no_margin b middles radii structure assembled nodes none) =
-    shift_inside m middles radii (shift_of last_place) cause two (nodes ∙ structure.nodes) none.fails
+model_inside m cause two (no_margin b middles radii structure assembled none) =
+    shift_inside m middles radii (shift_of last_place) cause two (assembled.middles_nodes ∙ structure.nodes) none.fails
 
 -- and those that a cause of the case's own names
 own_inside : (m : Lists) (case : ℕ) (b : Built) (middles : Matrix) (lambda : ℤ) (cause : Cause) → length m.nodes ≡ 2

@@ -19,7 +19,7 @@ returns-in_err-lambda-clause-cause c =
     let p = err_from_is_err_and c.from_residual-in_err-lambda.result c.from_residual-in_err-lambda.ensures.1 in
     rw (p.1, p.2)
     (names_also _ _ c.in_err-lambda.field-0.0
-    (λ cause is. no_margin c.in_ok-b.b c.in_ok-middles.middles c.in_ok-middles.radii c.in_ok-b.ensures.structure c.in_ok-middles.ensures.assembled c.in_ok-middles.ensures.factorable.nodes_are is)
+    (λ cause is. no_margin c.in_ok-b.b c.in_ok-middles.middles c.in_ok-middles.radii c.in_ok-b.ensures.structure c.in_ok-middles.ensures.assembled is)
     c.in_err-lambda.ensures.cause)
 
 pub returns-clause-ready : goal.returns-clause-ready

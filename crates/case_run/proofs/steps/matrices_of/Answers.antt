@@ -1,4 +1,4 @@
-use Rattle.case_run.proofs.Matrices.{same_nodes, middles_small, radii_below, radii_not_negative}
+use Rattle.case_run.proofs.Matrices.{middles_small, radii_below, radii_not_negative}
 use Rattle.case_run.specs.Causes.{matrix_row}
 use Rattle.case_run.proofs.steps.matrices_of.Goals as goal
 
@@ -7,8 +7,8 @@ returns-in-Ok-clause-factorable c =
     let kept = c.pattern-middles_nodes.ensures.kept in
     let assembled = c.in-Ok.ensures.matrices in
     record {
-      nodes_are = same_nodes c.args.b.now c.in-Ok.middles c.requires.built kept assembled.middles_pattern;
-      small = middles_small c.args.b.now c.in-Ok.middles _ c.requires.built kept assembled;
+      nodes_are = assembled.middles_nodes;
+      small = middles_small c.args.b.now c.in-Ok.middles _ kept assembled;
     }
 
 pub returns-in-Ok-clause-radii : goal.returns-in-Ok-clause-radii
@@ -16,9 +16,9 @@ returns-in-Ok-clause-radii c =
     let kept = c.pattern-radii_nodes.ensures.kept in
     let assembled = c.in-Ok.ensures.matrices in
     record {
-      nodes_are = same_nodes c.args.b.now c.in-Ok.radii c.requires.built kept assembled.radii_pattern;
-      not_negative = radii_not_negative c.args.b.now c.in-Ok.radii c.requires.built kept assembled.radii_pattern c.in-Ok.ensures.radii;
-      below = radii_below c.args.b.now _ c.in-Ok.radii c.requires.built kept assembled;
+      nodes_are = assembled.radii_nodes;
+      not_negative = radii_not_negative c.args.b.now c.in-Ok.radii kept assembled.radii_nodes c.in-Ok.ensures.radii;
+      below = radii_below c.args.b.now _ c.in-Ok.radii kept assembled;
     }
 
 pub returns-in-Err-Wide-clause-cause : goal.returns-in-Err-Wide-clause-cause
