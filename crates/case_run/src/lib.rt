@@ -8,3 +8,6 @@ mod shared;
 mod steps;
 
 pub use cases::answers;
+
+#[cfg(test)]
+mod tests;
