@@ -5,3 +5,9 @@ pub mod Definite
 pub mod Sharing
 pub mod Telling
 pub mod Lists
+pub mod SameSolutions
+pub mod SameFactors
+pub mod SameVerdicts
+pub mod SameStructures
+pub mod SameMargins
+pub mod SameAnswers

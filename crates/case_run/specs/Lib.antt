@@ -3,3 +3,4 @@ pub mod Steps
 pub mod Certified
 pub mod Equilibria
 pub mod Shared
+pub mod Determined

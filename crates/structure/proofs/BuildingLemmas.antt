@@ -82,8 +82,8 @@ nodes_in_range m members are = λ k d inside. ((are.sound k d inside).first_node
 
 -- ---- the structure
 
-pub IsStructureOf-from : (m : Lists) (b : Built) → IsModel m → AreMembers m b.members → length b.at ≡ length m.nodes → ListsTouching b.members (length b.members) b.at → b.unilateral ≡ [] → IsStructureOf m b
-IsStructureOf-from m b model are count lists linear =
+pub IsStructureOf-from : (m : Lists) (b : Built) → IsModel m → AreMembers m b.members → length b.at ≡ length m.nodes → ListsTouching b.members (length b.members) b.at → b.unilateral ≡ [] → b.stations ≡ [] → IsStructureOf m b
+IsStructureOf-from m b model are count lists linear no_stations =
     let most_nodes = model.rules.limits.nodes in
     record {
       members = are.value;
@@ -96,6 +96,7 @@ IsStructureOf-from m b model are count lists linear =
         touching = λ node k inside. lists.touching node k;
       };
       linear = linear;
+      no_stations = no_stations;
     }
 
 pub stiff : (m : Lists) (members : List Member) → AreMembers m members → (k : ℕ) → k < length members → (pos 1 ≤ℤ (get_or members k no_member).kappa.lo) × ((get_or members k no_member).kappa.hi <ℤ pos (2 ^ 61))

@@ -32,12 +32,13 @@ element_members m (suc n) = and_then (element_members m n) (with_element n (memb
 unfoldable pub model_members : Lists → Members
 model_members m = and_then (element_members m (length m.elements)) (λ members. Ok (members ++ flat_map restraint_members m.restraints))
 
--- the structure of a model, all of whose members are linear
+-- the structure of a model, all of whose members are linear; stations are left out
 pub record IsStructureOf (m : Lists) (b : Built) : Type 0 where
   pub members : model_members m ≡ Ok b.members
   pub nodes : node_count b ≡ length m.nodes
   pub built : IsBuilt b
   pub linear : b.unilateral ≡ []
+  pub no_stations : b.stations ≡ []
 
 -- each stiffness is at least 1 and below 2^61, in units of 2^-20 N/m
 abbrev pub IsStiff : Built → Type 0
