@@ -1,3 +1,4 @@
+mod Determined
 mod Fits
 mod Outcomes
 mod Printed

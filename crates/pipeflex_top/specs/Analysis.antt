@@ -9,6 +9,7 @@ use Rattle.model_types.specs.declared.answers.CaseAnswer.{CaseAnswer}
 use Rattle.model_types.specs.declared.answers.CaseAnswer.TheVariants as answer
 use Rattle.report.specs.Report.{report_of}
 use Rattle.pipeflex_top.specs.Bounds.{PrintBounds}
+use Rattle.pipeflex_top.specs.OneStraight.{IsOneStraight}
 
 -- two nodes are eliminated in text order: the parent of the first is the second
 abbrev pub text_order : Plan
@@ -33,3 +34,8 @@ pub record IsReport (m : Lists) (output : List ℕ) (status : Status) : Type 0 w
   pub written : output ≡ report_of m answers
   pub ends : EndsWith answers status
   pub bounds : PrintBounds m answers
+
+-- a model that is analysed has at most one report, and a run that writes it one ending
+abbrev pub ReportIsDetermined : Type 0
+ReportIsDetermined = (m : Lists) (first second : List ℕ) (status other : Status) → IsOneStraight m →
+    IsReport m first status → IsReport m second other → (first ≡ second) × (status ≡ other)

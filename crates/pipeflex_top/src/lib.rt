@@ -3,6 +3,7 @@
 
 mod analysis;
 mod commands;
+mod laws;
 mod member_table;
 mod one_straight;
 mod program;
@@ -10,4 +11,5 @@ mod refusal;
 mod reply;
 mod written;
 
+pub use laws::report_is_determined;
 pub use program::run;

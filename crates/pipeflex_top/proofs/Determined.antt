@@ -1,0 +1,38 @@
+-- A model has at most one report.
+use Rattle.std.proofs.Common.{◌≡◌, List, ℕ, refl, sym, ap, subst, ◌∙◌}
+use Rattle.std.specs.List.{All}
+use Rattle.case_run.specs.Determined.{AnswersAreDetermined}
+use Rattle.flex_io.specs.declared.outcome.Status.{Status}
+use Rattle.flex_io.specs.declared.outcome.Status.TheVariants.{Done, Uncertified, Refused, Usage, ReadFault, WriteFault, NoMemory}
+use Rattle.model_types.specs.Lists.{Lists}
+use Rattle.model_types.specs.declared.answers.CaseAnswer.{CaseAnswer}
+use Rattle.report.specs.Report.{report_of}
+use Rattle.pipeflex_top.specs.Analysis.{EndsWith, IsCertified, IsReport, ReportIsDetermined, text_order}
+use Rattle.pipeflex_top.proofs.Outcomes.{IsOrder-text}
+
+-- the same answers have one ending
+one_ending : (answers : List CaseAnswer) (first second : Status) → EndsWith answers first → EndsWith answers second → first ≡ second
+one_ending answers Done Done all also = refl
+one_ending answers Done Uncertified all none = absurd (none all)
+one_ending answers Uncertified Done none all = absurd (none all)
+one_ending answers Uncertified Uncertified none also = refl
+one_ending answers Done Refused all also = absurd also
+one_ending answers Done Usage all also = absurd also
+one_ending answers Done ReadFault all also = absurd also
+one_ending answers Done WriteFault all also = absurd also
+one_ending answers Done NoMemory all also = absurd also
+one_ending answers Uncertified Refused none also = absurd also
+one_ending answers Uncertified Usage none also = absurd also
+one_ending answers Uncertified ReadFault none also = absurd also
+one_ending answers Uncertified WriteFault none also = absurd also
+one_ending answers Uncertified NoMemory none also = absurd also
+one_ending answers Refused second here also = absurd here
+one_ending answers Usage second here also = absurd here
+one_ending answers ReadFault second here also = absurd here
+one_ending answers WriteFault second here also = absurd here
+one_ending answers NoMemory second here also = absurd here
+
+pub one_report : AnswersAreDetermined → ReportIsDetermined
+one_report determined m first second status other straight a b =
+    let same : a.answers ≡ b.answers = determined m text_order a.answers b.answers IsOrder-text (sym straight.few.nodes) a.reached b.reached in
+    (a.written ∙ ap (report_of m) same ∙ sym b.written, one_ending b.answers status other (subst (λ answers. EndsWith answers status) same a.ends) b.ends)
