@@ -8,6 +8,7 @@ use Rattle.flex_num.specs.Division.{IsFloor, IsCeiling, floor_of}
 use Rattle.flex_num.proofs.DivisionLemmas.{floor_of-is}
 use Rattle.flex_interval.specs.Ends.{Ends, IsInterval}
 use Rattle.flex_interval.specs.Fraction.{Fraction, Within, scaled}
+use Rattle.flex_interval.specs.Operations.{ends}
 
 -- where l is at most k times both ends, it is at most k times any number of the interval
 pub below_between : (l k : ℤ) {e : Ends} {x : Fraction} → Within e x → l ≤ℤ (e.lo *ℤ k) → l ≤ℤ (e.hi *ℤ k) → (l *ℤ x.den) ≤ℤ (x.num *ℤ k)
@@ -45,6 +46,14 @@ multiple_within a e n x ll lh hl hh within =
       at_least = rw one (below_between e.lo n within ll lh);
       at_most = rw one (above_between e.hi n within hl hh);
     }
+
+pub shifted_ordered : (a : Ends) (s : ℕ) → a.lo ≤ℤ a.hi → (a.lo *ℤ pos (2 ^ s)) ≤ℤ (a.hi *ℤ pos (2 ^ s))
+shifted_ordered a s ordered = le_mul (pos (2 ^ s)) (omega (arith, int_sums)) ordered
+
+pub shifted_within : (a : Ends) (s : ℕ) (x : Fraction) → a.lo ≤ℤ a.hi → Within a x → Within (ends (a.lo *ℤ pos (2 ^ s)) (a.hi *ℤ pos (2 ^ s))) (scaled x (pos (2 ^ s)) (pos 1))
+shifted_within a s x ordered within =
+    let kept = shifted_ordered a s ordered in
+    multiple_within a _ (pos (2 ^ s)) x (omega (arith, int_sums)) kept kept (omega (arith, int_sums)) within
 
 -- rounding outwards after a division by m
 pub rounded_within : (p e : Ends) (num den m : ℤ) → pos 0 <ℤ m → (e.lo *ℤ m) ≤ℤ p.lo → p.hi ≤ℤ (e.hi *ℤ m) → Within p (record { num = num; den = den *ℤ pos 1 }) → Within e (record { num = num; den = den *ℤ m })

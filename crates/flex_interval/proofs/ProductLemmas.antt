@@ -1,16 +1,21 @@
 -- Products of intervals.
 use Rattle.std.proofs.Common.{◌≡◌, arith, pos, ◌*ℤ◌, ◌≤ℤ◌, ◌<ℤ◌}
 use Rattle.std.proofs.lemmas.Int.{ints}
+use Rattle.std.specs.Int.{int_min, int_max}
 use Rattle.int_laws.proofs.Sums.{int_sums}
 use Rattle.int_laws.proofs.Products.{mul_comm, mul_assoc, le_mul, mul_positive}
 use Rattle.flex_interval.specs.Ends.{Ends}
 use Rattle.flex_interval.specs.Fraction.{Fraction, Within, scaled, times}
+use Rattle.flex_interval.specs.Operations.{ends}
+use Rattle.flex_interval.proofs.EndsLemmas.{min_first, min_second, max_first, max_second}
 use Rattle.flex_interval.proofs.FractionLemmas.{below_between, above_between}
 
--- p and q enclose x times both ends of b, and e encloses p and q
-pub products_within : (b e p q : Ends) (x y : Fraction) → e.lo ≤ℤ p.lo → e.lo ≤ℤ q.lo → p.hi ≤ℤ e.hi → q.hi ≤ℤ e.hi → Within p (scaled x b.lo (pos 1)) → Within q (scaled x b.hi (pos 1)) → Within b y → Within e (times x y 0)
+-- p and q enclose x times both ends of b
+pub products_within : (b p q : Ends) (x y : Fraction) → Within p (scaled x b.lo (pos 1)) → Within q (scaled x b.hi (pos 1)) → Within b y → Within (ends (int_min p.lo q.lo) (int_max p.hi q.hi)) (times x y 0)
 unfolding scaled times
-products_within b e p q x y lp lq hp hq in_p in_q in_b =
+products_within b p q x y in_p in_q in_b =
+    let lo = int_min p.lo q.lo in
+    let hi = int_max p.hi q.hi in
     let one : x.den *ℤ pos 1 ≡ x.den = omega (arith, ints) in
     let den : (x.den *ℤ y.den) *ℤ pos 1 ≡ x.den *ℤ y.den = omega (arith, ints) in
     let defined : pos 0 <ℤ x.den = rw one at in_p.defined in
@@ -18,14 +23,14 @@ products_within b e p q x y lp lq hp hq in_p in_q in_b =
     let low_q : (q.lo *ℤ x.den) ≤ℤ (x.num *ℤ b.hi) = rw one at in_q.at_least in
     let high_p : (x.num *ℤ b.lo) ≤ℤ (p.hi *ℤ x.den) = rw one at in_p.at_most in
     let high_q : (x.num *ℤ b.hi) ≤ℤ (q.hi *ℤ x.den) = rw one at in_q.at_most in
-    let under_p = le_mul x.den (omega (arith, int_sums)) lp in
-    let under_q = le_mul x.den (omega (arith, int_sums)) lq in
-    let over_p = le_mul x.den (omega (arith, int_sums)) hp in
-    let over_q = le_mul x.den (omega (arith, int_sums)) hq in
-    let low = below_between (e.lo *ℤ x.den) x.num in_b (omega (arith, int_sums, mul_comm b.lo x.num)) (omega (arith, int_sums, mul_comm b.hi x.num)) in
-    let high = above_between (e.hi *ℤ x.den) x.num in_b (omega (arith, int_sums, mul_comm b.lo x.num)) (omega (arith, int_sums, mul_comm b.hi x.num)) in
+    let under_p = le_mul x.den (omega (arith, int_sums)) (min_first p.lo q.lo) in
+    let under_q = le_mul x.den (omega (arith, int_sums)) (min_second p.lo q.lo) in
+    let over_p = le_mul x.den (omega (arith, int_sums)) (max_first p.hi q.hi) in
+    let over_q = le_mul x.den (omega (arith, int_sums)) (max_second p.hi q.hi) in
+    let low = below_between (lo *ℤ x.den) x.num in_b (omega (arith, int_sums, mul_comm b.lo x.num)) (omega (arith, int_sums, mul_comm b.hi x.num)) in
+    let high = above_between (hi *ℤ x.den) x.num in_b (omega (arith, int_sums, mul_comm b.lo x.num)) (omega (arith, int_sums, mul_comm b.hi x.num)) in
     rw den (record {
       defined = mul_positive x.den y.den defined in_b.defined;
-      at_least = omega (arith, int_sums, mul_assoc e.lo x.den y.den, mul_comm x.num y.num);
-      at_most = omega (arith, int_sums, mul_assoc e.hi x.den y.den, mul_comm x.num y.num);
+      at_least = omega (arith, int_sums, mul_assoc lo x.den y.den, mul_comm x.num y.num);
+      at_most = omega (arith, int_sums, mul_assoc hi x.den y.den, mul_comm x.num y.num);
     })

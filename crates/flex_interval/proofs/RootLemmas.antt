@@ -7,6 +7,12 @@ use Rattle.flex_interval.specs.Ends.{Ends, IsInterval}
 use Rattle.flex_interval.specs.Fraction.{Fraction, Within, times}
 use Rattle.flex_interval.specs.Roots.{EnclosesRoot, IsNonnegative}
 
+pub shifted_nonnegative : (x : ℤ) (s : ℕ) → pos 0 ≤ℤ x → pos 0 ≤ℤ (x *ℤ pos (2 ^ s))
+shifted_nonnegative x s h = mul_nonnegative x (pos (2 ^ s)) h (omega (arith, int_sums))
+
+pub nonnegative_above : (lo hi : ℤ) → pos 0 ≤ℤ lo → lo ≤ℤ hi → pos 0 ≤ℤ hi
+nonnegative_above lo hi first second = omega (arith, int_sums)
+
 -- the roots of the ends are an interval again
 pub root_is_interval : {a : Ends} {p q : ℤ} → IsInterval a → IsRoot a.lo p → IsRootUp a.hi q → IsInterval (record { lo = p; hi = q })
 root_is_interval {a} {p} {q} interval root root_up =

@@ -6,7 +6,7 @@ use Rattle.int_laws.proofs.Sums.{int_sums}
 use Rattle.int_laws.proofs.Products.{mul_comm, mul_assoc, mul_right_comm, add-mul, neg-mul, le_mul, le_of_mul, mul_positive}
 use Rattle.flex_interval.specs.Ends.{Ends, IsInterval}
 use Rattle.flex_interval.specs.Fraction.{Fraction, Within, plus, negated, absolute, less, greater, lesser}
-use Rattle.flex_interval.specs.Operations.{ends, max_of, min_of}
+use Rattle.flex_interval.specs.Operations.{ends, neg_of, max_of, min_of}
 use Rattle.flex_interval.proofs.QuotientLemmas.{same_ends}
 
 -- both sums of ends, taken to the common denominator
@@ -24,6 +24,14 @@ sum_within a b e x y lo hi in_a in_b =
       at_least = rw (lo, add-mul a.lo b.lo den) (omega (arith, int_sums, mul_assoc a.lo x.den y.den, mul_assoc b.lo y.den x.den, ap (λ z. b.lo *ℤ z) turned));
       at_most = rw (hi, add-mul a.hi b.hi den) (omega (arith, int_sums, mul_assoc a.hi x.den y.den, mul_assoc b.hi y.den x.den, ap (λ z. b.hi *ℤ z) turned));
     }
+
+pub neg_within : (a : Ends) (x : Fraction) → Within a x → Within (neg_of a) (negated x)
+unfolding neg_of negated
+neg_within a x within = record {
+  defined = within.defined;
+  at_least = omega (arith, int_sums, neg-mul a.hi x.den, within.at_most);
+  at_most = omega (arith, int_sums, neg-mul a.lo x.den, within.at_least);
+}
 
 -- ---- order of numbers
 -- what is at most x is at most a greater y

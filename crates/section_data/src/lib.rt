@@ -14,7 +14,7 @@ use model_types::{Material, Section};
 mod tube;
 
 /// The section values of a pipe of outside diameter D and inside diameter d.
-#[derive(Clone, Copy, Debug, PartialEq, Eq)]
+#[derive(Clone, Copy)]
 pub struct SectionIv {
     /// D^2 - d^2, in square micrometres.
     pub x: i128,

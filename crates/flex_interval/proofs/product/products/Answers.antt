@@ -1,34 +1,44 @@
-use Rattle.std.proofs.Common.{ap, arith, FitsSigned, to_z-of_z}
-use Rattle.std.proofs.lemmas.Int.{clamps}
-use Rattle.std.specs.Int.{w128}
-use Rattle.int_laws.proofs.Sums.{int_sums}
-use Rattle.flex_interval.specs.Ends.{Ends}
-use Rattle.flex_interval.proofs.EndsLemmas.{small_fits}
+use Rattle.std.proofs.Common.{rules, ◌≡◌, ap, FitsSigned, to_z, of_z, to_z-of_z}
+use Rattle.std.specs.Int.{w128, int_min, int_max}
+use Rattle.flex_interval.specs.Ends.{Ends, IsInterval}
+use Rattle.flex_interval.specs.Operations.{products_of}
+use Rattle.flex_interval.proofs.EndsLemmas.{small_fits, hull_is_interval}
 use Rattle.flex_interval.proofs.ProductLemmas.{products_within}
 use Rattle.flex_interval.proofs.product.products.Goals as goal
 
+lo_is : (c : goal.After-max) → to_z w128 (of_z w128 c.min.result) ≡ int_min c.in_ok-lower.lower.lo c.in_ok-upper.upper.lo
+lo_is c =
+    let lower : FitsSigned w128 c.lower.inside.lo = small_fits c.lower.invariant.lo_small in
+    let upper : FitsSigned w128 c.upper.inside.lo = small_fits c.upper.invariant.lo_small in
+    let answer : FitsSigned w128 c.min.result = search rules in
+    rw (to_z-of_z answer) (rw (to_z-of_z lower, to_z-of_z upper, ap (λ (e : Ends). e.lo) c.lower.view_is, ap (λ (e : Ends). e.lo) c.upper.view_is) at c.min.ensures.value)
+
+hi_is : (c : goal.After-max) → to_z w128 (of_z w128 c.max.result) ≡ int_max c.in_ok-lower.lower.hi c.in_ok-upper.upper.hi
+hi_is c =
+    let lower : FitsSigned w128 c.lower.inside.hi = small_fits c.lower.invariant.hi_small in
+    let upper : FitsSigned w128 c.upper.inside.hi = small_fits c.upper.invariant.hi_small in
+    let answer : FitsSigned w128 c.max.result = search rules in
+    rw (to_z-of_z answer) (rw (to_z-of_z lower, to_z-of_z upper, ap (λ (e : Ends). e.hi) c.lower.view_is, ap (λ (e : Ends). e.hi) c.upper.view_is) at c.max.ensures.value)
+
 pub invariant_of-result : goal.invariant_of-result
-invariant_of-result c = record {
-  ordered = omega (arith, int_sums, clamps, c.lower.invariant.ordered, c.upper.invariant.ordered);
-  lo_small = omega (arith, int_sums, clamps, c.lower.invariant.lo_small, c.upper.invariant.lo_small);
-  hi_small = omega (arith, int_sums, clamps, c.lower.invariant.hi_small, c.upper.invariant.hi_small);
-}
+invariant_of-result c =
+    let lower : IsInterval c.in_ok-lower.lower = rw (← c.lower.view_is) c.lower.invariant in
+    let upper : IsInterval c.in_ok-upper.upper = rw (← c.upper.view_is) c.upper.invariant in
+    rw (lo_is c, hi_is c) (hull_is_interval c.in_ok-lower.lower c.in_ok-upper.upper lower upper)
+
+pub returns-clause-value : goal.returns-clause-value
+unfolding products_of
+returns-clause-value c =
+    let b_lo : FitsSigned w128 c.b.inside.lo = small_fits c.b.invariant.lo_small in
+    let b_hi : FitsSigned w128 c.b.inside.hi = small_fits c.b.invariant.hi_small in
+    let lower = rw (to_z-of_z b_lo) at c.in_ok-lower.ensures.value in
+    let upper = rw (to_z-of_z b_hi) at c.in_ok-upper.ensures.value in
+    rw (lo_is c, hi_is c, ← c.b.view_is, ← lower, ← upper)
 
 pub returns-clause-within : goal.returns-clause-within
 returns-clause-within c = λ x y in_a in_b.
     let b_lo : FitsSigned w128 c.b.inside.lo = small_fits c.b.invariant.lo_small in
     let b_hi : FitsSigned w128 c.b.inside.hi = small_fits c.b.invariant.hi_small in
-    let lo = ap (λ (e : Ends). e.lo) c.b.view_is in
-    let hi = ap (λ (e : Ends). e.hi) c.b.view_is in
-    let in_lower = rw (to_z-of_z b_lo, lo) at (c.in_ok-lower.ensures.within x in_a) in
-    let in_upper = rw (to_z-of_z b_hi, hi) at (c.in_ok-upper.ensures.within x in_a) in
-    let p_lo = ap (λ (e : Ends). e.lo) c.lower.view_is in
-    let p_hi = ap (λ (e : Ends). e.hi) c.lower.view_is in
-    let q_lo = ap (λ (e : Ends). e.lo) c.upper.view_is in
-    let q_hi = ap (λ (e : Ends). e.hi) c.upper.view_is in
-    products_within c.args.b _ c.in_ok-lower.lower c.in_ok-upper.upper x y
-    (omega (arith, int_sums, clamps, c.lower.invariant.lo_small, c.upper.invariant.lo_small))
-    (omega (arith, int_sums, clamps, c.lower.invariant.lo_small, c.upper.invariant.lo_small))
-    (omega (arith, int_sums, clamps, c.lower.invariant.hi_small, c.upper.invariant.hi_small))
-    (omega (arith, int_sums, clamps, c.lower.invariant.hi_small, c.upper.invariant.hi_small))
-    in_lower in_upper in_b
+    let in_lower = rw (to_z-of_z b_lo, ap (λ (e : Ends). e.lo) c.b.view_is) at (c.in_ok-lower.ensures.within x in_a) in
+    let in_upper = rw (to_z-of_z b_hi, ap (λ (e : Ends). e.hi) c.b.view_is) at (c.in_ok-upper.ensures.within x in_a) in
+    rw (lo_is c, hi_is c) (products_within c.args.b c.in_ok-lower.lower c.in_ok-upper.upper x y in_lower in_upper in_b)
