@@ -1,7 +1,9 @@
--- The way between two nodes is as long as their distance, so each of its parts is in range.
-use Rattle.std.proofs.Common.{◌≡◌, ◌*◌, refl, arith, ℤ, pos, negsuc, ◌-ℤ◌, ◌*ℤ◌, neg_ℤ, ◌≤ℤ◌, unsigned_abs}
+-- The way between two nodes is as long as their distance, so each of its parts is in range; and the squares of such parts.
+use Rattle.std.proofs.Common.{◌≡◌, ◌*◌, refl, arith, ℤ, pos, negsuc, ◌+ℤ◌, ◌-ℤ◌, ◌*ℤ◌, neg_ℤ, ◌≤ℤ◌, unsigned_abs, FitsSigned}
+use Rattle.std.proofs.lemmas.Int.{by_lt_z}
+use Rattle.std.specs.Int.{w64, w128}
 use Rattle.int_laws.proofs.Sums.{int_sums}
-use Rattle.int_laws.proofs.Products.{square_nonnegative, le_of_square, neg-mul, mul-neg}
+use Rattle.int_laws.proofs.Products.{square_nonnegative, square_le, le_of_square, neg-mul, mul-neg}
 use Rattle.model_types.specs.declared.records.Node.{Node}
 use Rattle.model_types.specs.Ranges.{IsIn, of_size}
 use Rattle.model_types.specs.Rules.{IsSpan, square_distance}
@@ -38,3 +40,23 @@ way_in_range from to span =
       not_zero = omega (arith, int_sums, whole_square, span.apart);
       short = short;
     }
+
+-- ---- squares
+pub part_fits : (z : ℤ) → IsIn (of_size 30000000) z → FitsSigned w64 z
+part_fits z h = omega (arith, int_sums, h.least, h.most)
+
+-- the square of a part
+pub square_most : (z : ℤ) → IsIn (of_size 30000000) z → (z *ℤ z) ≤ℤ pos 900000000000000
+square_most z h =
+    by_lt_z z (pos 0)
+    (λ negative. omega (arith, int_sums, square_le (neg_ℤ z) (pos 30000000) (omega (arith, int_sums)) (omega (arith, int_sums, h.least)), neg-mul z (neg_ℤ z), mul-neg z z))
+    (λ rest. square_le z (pos 30000000) rest h.most)
+
+pub small_fits : (p : ℤ) → pos 0 ≤ℤ p → p ≤ℤ pos 900000000000000 → FitsSigned w128 p
+small_fits p low high = omega (arith, int_sums)
+
+pub two_fit : (p q : ℤ) → pos 0 ≤ℤ p → pos 0 ≤ℤ q → p ≤ℤ pos 900000000000000 → q ≤ℤ pos 900000000000000 → FitsSigned w128 (p +ℤ q)
+two_fit p q low_p low_q high_p high_q = omega (arith, int_sums)
+
+pub three_fit : (p q r : ℤ) → pos 0 ≤ℤ p → pos 0 ≤ℤ q → pos 0 ≤ℤ r → p ≤ℤ pos 900000000000000 → q ≤ℤ pos 900000000000000 → r ≤ℤ pos 900000000000000 → FitsSigned w128 ((p +ℤ q) +ℤ r)
+three_fit p q r low_p low_q low_r high_p high_q high_r = omega (arith, int_sums)

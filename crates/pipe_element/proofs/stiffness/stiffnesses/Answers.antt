@@ -13,6 +13,15 @@ returns-in_err-shear-clause-value c =
     let shear = rw (to_z-of_z c.ranges.square) at c.in_err-shear.ensures.value in
     rw (p.1, p.2, ← axial, ← bending, ← torsion, ← shear)
 
+pub returns-clause-value : goal.returns-clause-value
+unfolding stiffness_of
+returns-clause-value c =
+    let axial = rw (to_z-of_z c.ranges.load) at c.in_ok-axial.ensures.value in
+    let bending = rw (to_z-of_z c.ranges.squares) at c.in_ok-bending.ensures.value in
+    let torsion = rw (to_z-of_z c.ranges.divisor) at c.in_ok-torsion.ensures.value in
+    let shear = rw (to_z-of_z c.ranges.square) at c.in_ok-shear.ensures.value in
+    rw (← axial, ← bending, ← torsion, ← shear)
+
 pub returns-clause-within : goal.returns-clause-within
 returns-clause-within c = λ p l in_p in_l.
     let axial = rw (to_z-of_z c.ranges.load) at (c.in_ok-axial.ensures.within p l in_p in_l) in
