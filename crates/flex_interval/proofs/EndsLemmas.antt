@@ -1,5 +1,5 @@
 -- The ends of an interval fit `i128`, and so do their sums; and the least and the greatest of two numbers.
-use Rattle.std.proofs.Common.{◌^◌, ◌<◌, arith, ℤ, ◌+ℤ◌, ◌≤ℤ◌, unsigned_abs, FitsSigned}
+use Rattle.std.proofs.Common.{◌^◌, ◌<◌, arith, ℤ, ◌+ℤ◌, neg_ℤ, ◌≤ℤ◌, unsigned_abs, FitsSigned}
 use Rattle.std.proofs.lemmas.Int.{clamps}
 use Rattle.std.specs.Int.{w128, int_min, int_max}
 use Rattle.int_laws.proofs.Sums.{int_sums}
@@ -8,6 +8,9 @@ use Rattle.flex_interval.specs.Operations.{ends}
 
 pub small_fits : {x : ℤ} → unsigned_abs x < 2 ^ 126 → FitsSigned w128 x
 small_fits {x} h = omega (arith, int_sums)
+
+pub neg_fits : (x : ℤ) → unsigned_abs x < 2 ^ 126 → FitsSigned w128 (neg_ℤ x)
+neg_fits x h = omega (arith, int_sums)
 
 pub sum_fits : (x y : ℤ) → unsigned_abs x < 2 ^ 126 → unsigned_abs y < 2 ^ 126 → FitsSigned w128 (x +ℤ y)
 sum_fits x y first second = omega (arith, int_sums)

@@ -131,6 +131,13 @@ abs_within_zero a x within =
       at_most = omega (arith, int_sums);
     }
 
+pub abs_is_interval : (a : Ends) → IsInterval a → IsInterval (ends (pos 0) (int_max (neg_ℤ a.lo) a.hi))
+abs_is_interval a in_a = record {
+  ordered = omega (arith, int_sums, clamps, in_a.ordered);
+  lo_small = omega (arith, int_sums);
+  hi_small = omega (arith, int_sums, clamps, in_a.lo_small, in_a.hi_small);
+}
+
 pub abs_within_positive : (a : Ends) (x : Fraction) → pos 0 <ℤ a.lo → Within a x → Within a (absolute x)
 unfolding absolute
 abs_within_positive a x h within =

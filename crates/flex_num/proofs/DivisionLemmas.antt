@@ -1,7 +1,7 @@
 -- The three rounded quotients: what each one is, and that nothing else is it.
-use Rattle.std.proofs.Common.{◌≡◌, ap, ◌∙◌, arith, ℤ, pos, negsuc, ◌+ℤ◌, ◌-ℤ◌, ◌*ℤ◌, neg_ℤ, ◌≤ℤ◌, ◌<ℤ◌}
-use Rattle.std.proofs.lemmas.Int.{ints}
-use Rattle.std.specs.Int.{int_div_euclid, int_rem_euclid}
+use Rattle.std.proofs.Common.{◌≡◌, ap, ◌∙◌, arith, ℤ, pos, negsuc, ◌+ℤ◌, ◌-ℤ◌, ◌*ℤ◌, neg_ℤ, ◌≤ℤ◌, ◌<ℤ◌, FitsSigned}
+use Rattle.std.proofs.lemmas.Int.{ints, by_lt_z}
+use Rattle.std.specs.Int.{w128, int_div_euclid, int_rem_euclid}
 use Rattle.int_laws.proofs.Sums.{int_sums}
 use Rattle.int_laws.proofs.Products.{add-mul, sub-mul, neg-mul, mul_comm, mul_assoc, one-mul, le_mul, lt_of_mul}
 use Rattle.flex_num.specs.Division.{IsFloor, IsCeiling, IsNearest, floor_of, ceil_of, nearest_of}
@@ -150,3 +150,22 @@ nearest_above n d h more =
       half_below = omega (arith, int_sums, sub-mul (pos 2 *ℤ (q +ℤ pos 1)) (pos 1) d);
       half_above = omega (arith, int_sums, add-mul (pos 2 *ℤ (q +ℤ pos 1)) (pos 1) d);
     }
+
+-- ---- what fits
+-- a quotient with a remainder is not the greatest number
+pub next_fits : (n d : ℤ) → FitsSigned w128 n → FitsSigned w128 (int_div_euclid n d) → pos 0 <ℤ d → pos 0 <ℤ int_rem_euclid n d → FitsSigned w128 (int_div_euclid n d +ℤ pos 1)
+next_fits n d fits quotient_fits h more =
+    let q = int_div_euclid n d in
+    let whole = quotient-remainder n d h in
+    by_lt_z q (pos 0)
+    (λ negative. omega (arith, int_sums))
+    (λ rest.
+    let one : pos 1 ≤ℤ d = omega (arith, int_sums) in
+    let kept = le_mul q rest one in
+    omega (arith, int_sums, one-mul q, mul_comm d q))
+
+pub rest_fits : (n d : ℤ) → FitsSigned w128 d → pos 0 <ℤ d → FitsSigned w128 (d -ℤ int_rem_euclid n d)
+rest_fits n d fits h = let bounds = remainder_bounds n d h in omega (arith, int_sums)
+
+pub remainder_positive : (r d : ℤ) → pos 0 <ℤ d → (d -ℤ r) ≤ℤ r → pos 0 <ℤ r
+remainder_positive r d h more = omega (arith, int_sums)

@@ -1,10 +1,21 @@
 use Rattle.std.proofs.Common.{rules, ◌≡◌, ap, ◌*ℤ◌, FitsSigned, to_z, of_z, to_z-of_z}
+use Rattle.std.proofs.lemmas.Result.{err_from_is_err_and}
 use Rattle.std.specs.Int.{w128, int_min, int_max}
 use Rattle.flex_interval.specs.Ends.{Ends}
 use Rattle.flex_interval.specs.Operations.{multiple_of}
 use Rattle.flex_interval.proofs.EndsLemmas.{small_fits, min_first, min_second, max_first, max_second, between_is_interval}
 use Rattle.flex_interval.proofs.FractionLemmas.{multiple_within}
 use Rattle.flex_interval.proofs.scale.multiple.Goals as goal
+
+pub returns-in_err-second-clause-value : goal.returns-in_err-second-clause-value
+unfolding multiple_of
+returns-in_err-second-clause-value c =
+    let a_lo : FitsSigned w128 c.a.inside.lo = small_fits c.a.invariant.lo_small in
+    let a_hi : FitsSigned w128 c.a.inside.hi = small_fits c.a.invariant.hi_small in
+    let first = rw (to_z-of_z a_lo, to_z-of_z c.ranges.n) at c.in_ok-first.ensures.value in
+    let second = rw (to_z-of_z a_hi, to_z-of_z c.ranges.n) at c.in_err-second.ensures.value in
+    let p = err_from_is_err_and c.from_residual-in_err-second.result c.from_residual-in_err-second.ensures.1 in
+    rw (p.1, p.2, ← c.a.view_is, ← first, ← second)
 
 lo_is : (c : goal.After-max) → to_z w128 (of_z w128 c.min.result) ≡ int_min c.in_ok-first.first c.in_ok-second.second
 lo_is c =

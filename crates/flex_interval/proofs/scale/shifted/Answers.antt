@@ -1,4 +1,5 @@
 use Rattle.std.proofs.Common.{rules, ap, ◌≤ℤ◌, FitsSigned, to_z-of_z}
+use Rattle.std.proofs.lemmas.Result.{err_from_is_err_and}
 use Rattle.std.specs.Int.{w128}
 use Rattle.flex_interval.specs.Ends.{Ends}
 use Rattle.flex_interval.specs.Operations.{shifted_of}
@@ -8,6 +9,17 @@ use Rattle.flex_interval.proofs.scale.shifted.Goals as goal
 
 view_ordered : (c : goal.In_ok-hi) → c.args.a.lo ≤ℤ c.args.a.hi
 view_ordered c = rw (← c.a.view_is) c.a.invariant.ordered
+
+pub returns-in_err-hi-clause-value : goal.returns-in_err-hi-clause-value
+unfolding shifted_of
+returns-in_err-hi-clause-value c =
+    let lo_fits : FitsSigned w128 c.a.inside.lo = small_fits c.a.invariant.lo_small in
+    let hi_fits : FitsSigned w128 c.a.inside.hi = small_fits c.a.invariant.hi_small in
+    let unit_fits : FitsSigned w128 c.power-unit.result = search rules in
+    let lo = rw (to_z-of_z lo_fits, to_z-of_z unit_fits, c.power-unit.ensures) at c.in_ok-lo.ensures.value in
+    let hi = rw (to_z-of_z hi_fits, to_z-of_z unit_fits, c.power-unit.ensures) at c.in_err-hi.ensures.value in
+    let p = err_from_is_err_and c.from_residual-in_err-hi.result c.from_residual-in_err-hi.ensures.1 in
+    rw (p.1, p.2, ← c.a.view_is, ← lo, ← hi)
 
 pub returns-clause-lo : goal.returns-clause-lo
 returns-clause-lo c =
