@@ -18,6 +18,16 @@ overflow_add-a-inside-2 c =
     let b : FitsSigned w128 c.b.inside.hi = small_fits c.b.invariant.hi_small in
     rw (to_z-of_z a, to_z-of_z b) (sum_fits c.a.inside.hi c.b.inside.hi c.a.invariant.hi_small c.b.invariant.hi_small)
 
+pub returns-in_err-lo-clause-value : goal.returns-in_err-lo-clause-value
+unfolding add_of
+returns-in_err-lo-clause-value c =
+    let a_lo : FitsSigned w128 c.a.inside.lo = small_fits c.a.invariant.lo_small in
+    let b_lo : FitsSigned w128 c.b.inside.lo = small_fits c.b.invariant.lo_small in
+    let sum_lo : FitsSigned w128 (c.a.inside.lo +ℤ c.b.inside.lo) = sum_fits c.a.inside.lo c.b.inside.lo c.a.invariant.lo_small c.b.invariant.lo_small in
+    let lo = rw (to_z-of_z a_lo, to_z-of_z b_lo, to_z-of_z sum_lo) at c.in_err-lo.ensures.value in
+    let p = err_from_is_err_and c.from_residual.result c.from_residual.ensures.1 in
+    rw (p.1, p.2, ← c.a.view_is, ← c.b.view_is, ← lo)
+
 pub returns-in_err-hi-clause-value : goal.returns-in_err-hi-clause-value
 unfolding add_of
 returns-in_err-hi-clause-value c =
