@@ -1,9 +1,10 @@
 -- A record that the rules allow is refused by no number.
-use Rattle.std.proofs.Common.{◌≡◌, ◌≢◌, ℕ, ◌*◌, ◌<◌, ◌≤◌, ◌==◌, Bool, true, false, true≢false, ◌||◌, nat_lt, nat_le, int_le, ℤ, ◌<ℤ◌, List, [], ◌∷◌, ◌++◌, map, length, get_or, Option, Some, None, is_some, position, slice_get, All, AllPairs, nat_eq, if◌then◌else◌, refl, sym, ap, subst, ◌∙◌, arith, length-append}
+use Rattle.std.proofs.Common.{◌≡◌, ◌≢◌, ℕ, ◌*◌, ◌<◌, ◌==◌, Bool, true, false, true≢false, ◌||◌, nat_lt, int_le, ℤ, ◌<ℤ◌, List, [], ◌∷◌, ◌++◌, map, length, get_or, Option, Some, None, is_some, position, slice_get, All, AllPairs, nat_eq, if◌then◌else◌, refl, sym, ap, subst, ◌∙◌, arith, length-append}
+use Rattle.std.proofs.Math.ListN.{get_or-append}
+use Rattle.std.proofs.lemmas.Bool.{le-ltb, lt-leb}
 use Rattle.std.proofs.lemmas.Bool.Decides.{nat_tests}
-use Rattle.std.proofs.lemmas.Grind.{common_steps}
 use Rattle.std.proofs.lemmas.Int.{ints}
-use Rattle.std.proofs.lemmas.List.{map-append}
+use Rattle.std.proofs.lemmas.List.{get_or_push, map-append}
 use Rattle.std.proofs.lemmas.List.Elements.{All-contains, Contains-push}
 use Rattle.std.proofs.lemmas.List.Quantifiers.{position-Some}
 use Rattle.std.proofs.lemmas.Slice.Eq.{bytes_eq-Decides}
@@ -19,12 +20,6 @@ use Rattle.model_types.specs.Refusals.{refusal, is_doubled, names_unknown, has_t
 use Rattle.model_types.specs.Rules.{KeepsRules, KeepsSection, KeepsElement, KeepsRestraint, KeepsForce, square_distance, longest}
 
 -- tests that a fact answers
-not_at_most : (n k : ℕ) → n < k → nat_le k n ≡ false
-not_at_most n k h = grind (arith, nat_tests)
-
-not_below : (n k : ℕ) → n ≤ k → nat_lt k n ≡ false
-not_below n k h = grind (arith, nat_tests)
-
 not_zero : (n : ℕ) → 0 < n → (n == 0) ≡ false
 not_zero n h = grind (arith, nat_tests)
 
@@ -49,8 +44,8 @@ absent_from_distinct names name distinct = by (position (pointwise nat_eq name) 
         let same : name ≡ get_or names i name = (bytes_eq-Decides name (get_or names i name)).0 found.1 in
         let i_in : i < length names = found.0 in
         let last_in : length names < length (names ++ name ∷ []) = omega (arith, length-append names (name ∷ [])) in
-        let earlier : get_or (names ++ name ∷ []) i name ≡ get_or names i name = grind (arith, common_steps) in
-        let last : get_or (names ++ name ∷ []) (length names) name ≡ name = grind (arith, common_steps) in
+        let earlier : get_or (names ++ name ∷ []) i name ≡ get_or names i name = get_or-append names (name ∷ []) name i i_in in
+        let last : get_or (names ++ name ∷ []) (length names) name ≡ name = get_or_push names name name (length names) refl in
         absurd (distinct i (length names) name i_in last_in (earlier ∙ sym same ∙ sym last))
 
 absent_name : {X : Type 0} (name_of : X → List ℕ) (xs : List X) (x : X) → AllPairs (λ a b. a ≢ b) (map name_of (xs ++ x ∷ [])) → is_some (position (pointwise nat_eq (name_of x)) (map name_of xs)) ≡ false
@@ -80,16 +75,16 @@ named_new m (record_of.Force r) k = refl
 known : (m : Lists) (r : Record) → KeepsRules (added m r) → names_unknown m r ≡ false
 known m (record_of.Section r) k =
     let own = All-last (KeepsSection m.materials) m.sections r k.sections in
-    not_at_most _ _ own.material
+    lt-leb _ _ own.material
 known m (record_of.Element r) k =
     let own = All-last (KeepsElement m.nodes m.sections) m.elements r k.elements in
-    both _ _ (both _ _ (not_at_most _ _ own.from) (not_at_most _ _ own.to)) (not_at_most _ _ own.section)
+    both _ _ (both _ _ (lt-leb _ _ own.from) (lt-leb _ _ own.to)) (lt-leb _ _ own.section)
 known m (record_of.Restraint r) k =
     let own = All-last (KeepsRestraint m.nodes) m.restraints r k.restraints in
-    not_at_most _ _ own.node
+    lt-leb _ _ own.node
 known m (record_of.Force r) k =
     let own = All-last (KeepsForce m.cases m.nodes) m.forces r k.forces in
-    both _ _ (not_at_most _ _ own.case) (not_at_most _ _ own.node)
+    both _ _ (lt-leb _ _ own.case) (lt-leb _ _ own.node)
 known m (record_of.Material r) k = refl
 known m (record_of.Node r) k = refl
 known m (record_of.Case r) k = refl
@@ -122,7 +117,7 @@ with_length m (record_of.Force r) k = refl
 not_too_long : (m : Lists) (r : Record) → KeepsRules (added m r) → is_too_long m r ≡ false
 not_too_long m (record_of.Element r) k =
     let own = All-last (KeepsElement m.nodes m.sections) m.elements r k.elements in
-    span_test (nat_lt (longest * longest)) m.nodes r (λ a b at_from at_to. not_below _ _ (own.span a b at_from at_to).near)
+    span_test (nat_lt (longest * longest)) m.nodes r (λ a b at_from at_to. le-ltb _ _ (own.span a b at_from at_to).near)
 not_too_long m (record_of.Material r) k = refl
 not_too_long m (record_of.Section r) k = refl
 not_too_long m (record_of.Node r) k = refl
@@ -132,13 +127,13 @@ not_too_long m (record_of.Force r) k = refl
 
 -- there is room for the record
 room_for : (m : Lists) (r : Record) → KeepsRules (added m r) → is_too_many m r ≡ false
-room_for m (record_of.Material r) k = not_at_most _ _ (omega (arith, length-append m.materials (r ∷ []), k.limits.materials))
-room_for m (record_of.Section r) k = not_at_most _ _ (omega (arith, length-append m.sections (r ∷ []), k.limits.sections))
-room_for m (record_of.Node r) k = not_at_most _ _ (omega (arith, length-append m.nodes (r ∷ []), k.limits.nodes))
-room_for m (record_of.Element r) k = not_at_most _ _ (omega (arith, length-append m.elements (r ∷ []), k.limits.elements))
-room_for m (record_of.Restraint r) k = not_at_most _ _ (omega (arith, length-append m.restraints (r ∷ []), k.limits.restraints))
-room_for m (record_of.Case r) k = not_at_most _ _ (omega (arith, length-append m.cases (r ∷ []), k.limits.cases))
-room_for m (record_of.Force r) k = not_at_most _ _ (omega (arith, length-append m.forces (r ∷ []), k.limits.forces))
+room_for m (record_of.Material r) k = lt-leb _ _ (omega (arith, length-append m.materials (r ∷ []), k.limits.materials))
+room_for m (record_of.Section r) k = lt-leb _ _ (omega (arith, length-append m.sections (r ∷ []), k.limits.sections))
+room_for m (record_of.Node r) k = lt-leb _ _ (omega (arith, length-append m.nodes (r ∷ []), k.limits.nodes))
+room_for m (record_of.Element r) k = lt-leb _ _ (omega (arith, length-append m.elements (r ∷ []), k.limits.elements))
+room_for m (record_of.Restraint r) k = lt-leb _ _ (omega (arith, length-append m.restraints (r ∷ []), k.limits.restraints))
+room_for m (record_of.Case r) k = lt-leb _ _ (omega (arith, length-append m.cases (r ∷ []), k.limits.cases))
+room_for m (record_of.Force r) k = lt-leb _ _ (omega (arith, length-append m.forces (r ∷ []), k.limits.forces))
 
 -- a test that fails leaves the verdict to the tests after it
 skipped : (b : Bool) (n : ℕ) (rest : Option ℕ) → b ≡ false → rest ≡ None → (if b then Some n else rest) ≡ None

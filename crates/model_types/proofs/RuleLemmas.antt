@@ -1,5 +1,6 @@
 -- A record that no rule refuses leaves the rules kept.
-use Rattle.std.proofs.Common.{◌≡◌, ◌≢◌, ℕ, zero, suc, ◌*◌, ◌<◌, ◌≤◌, ◌==◌, Bool, true, false, true≢false, ◌||◌, nat_lt, nat_le, int_le, ℤ, pos, ◌*ℤ◌, ◌<ℤ◌, AllPairs, List, [], ◌∷◌, ◌++◌, length, Some, None, Result, Ok, Err, OnOk, OnErr, slice_get, refl, sym, ap, subst, ◌∙◌, arith, length-append}
+use Rattle.std.proofs.Common.{◌≡◌, ◌≢◌, ℕ, zero, suc, ◌*◌, ◌<◌, ◌==◌, Bool, true, false, true≢false, ◌||◌, nat_lt, int_le, ℤ, pos, ◌*ℤ◌, ◌<ℤ◌, AllPairs, List, [], ◌∷◌, ◌++◌, length, Some, None, Result, Ok, Err, OnOk, OnErr, slice_get, refl, sym, ap, subst, ◌∙◌, arith, length-append}
+use Rattle.std.proofs.lemmas.Bool.{leb-false, ltb-false}
 use Rattle.std.proofs.lemmas.Bool.Decides.{nat_tests}
 use Rattle.std.specs.Option.{option_map_or}
 use Rattle.std.proofs.lemmas.Int.{ints}
@@ -58,12 +59,6 @@ KeepsForce-more_cases cases nodes n f k = record { form = k.form; case = omega (
 positive : (n : ℕ) → (n == 0) ≡ false → 0 < n
 positive n h = grind (arith, nat_tests)
 
-at_most : (n k : ℕ) → nat_lt k n ≡ false → n ≤ k
-at_most n k h = grind (arith, nat_tests)
-
-below : (n k : ℕ) → nat_le k n ≡ false → n < k
-below n k h = grind (arith, nat_tests)
-
 neither : (a b : Bool) → (a || b) ≡ false → (a ≡ false) × (b ≡ false)
 neither true b h = absurd (true≢false h)
 neither false b h = (refl, h)
@@ -78,24 +73,24 @@ IsSpan-from_tests m e a b apart near at_from at_to =
     let square : square_length m.nodes e ≡ Some (square_distance a b) = ap (λ o. square_between o (slice_get m.nodes e.to.0)) at_from ∙ ap (square_between (Some a)) at_to in
     let not_zero : (square_distance a b == 0) ≡ false = sym (ap (λ o. option_map_or (λ n. n == 0) o false) square) ∙ apart in
     let not_more : nat_lt (longest * longest) (square_distance a b) ≡ false = sym (ap (λ o. option_map_or (nat_lt (longest * longest)) o false) square) ∙ near in
-    record { apart = positive _ not_zero; near = at_most _ _ not_more }
+    record { apart = positive _ not_zero; near = ltb-false _ _ not_more }
 
 -- a record that no rule refuses keeps its own
 KeepsSection-from_tests : (m : Lists) (s : Section) → SectionInForm s → BreaksNoRule m (record_of.Section s) → KeepsSection m.materials s
 KeepsSection-from_tests m s form passes =
     let walls = neither (int_le s.d (pos 2 *ℤ s.t)) (int_le s.t s.allowance) passes.walls in
-    record { form = form; material = below _ _ passes.known; bore = int_below _ _ walls.0; sound_wall = int_below _ _ walls.1 }
+    record { form = form; material = leb-false _ _ passes.known; bore = int_below _ _ walls.0; sound_wall = int_below _ _ walls.1 }
 
 KeepsElement-from_tests : (m : Lists) (e : Element) → IsName e.name → BreaksNoRule m (record_of.Element e) → KeepsElement m.nodes m.sections e
 KeepsElement-from_tests m e named passes =
     let rest = neither _ _ passes.known in
     let ends = neither _ _ rest.0 in
-    record { name = named; from = below _ _ ends.0; to = below _ _ ends.1; section = below _ _ rest.1; span = λ a b. IsSpan-from_tests m e a b passes.apart passes.near }
+    record { name = named; from = leb-false _ _ ends.0; to = leb-false _ _ ends.1; section = leb-false _ _ rest.1; span = λ a b. IsSpan-from_tests m e a b passes.apart passes.near }
 
 KeepsForce-from_tests : (m : Lists) (f : Force) → ForceInForm f → BreaksNoRule m (record_of.Force f) → KeepsForce m.cases m.nodes f
 KeepsForce-from_tests m f form passes =
     let ends = neither _ _ passes.known in
-    record { form = form; case = below _ _ ends.0; node = below _ _ ends.1 }
+    record { form = form; case = leb-false _ _ ends.0; node = leb-false _ _ ends.1 }
 
 -- the names stay distinct
 names_added : (m : Lists) (r : Record) → ((space : Space) → AllPairs (λ a b. a ≢ b) (names_in m space)) → is_doubled m r ≡ false → (space : Space) → AllPairs (λ a b. a ≢ b) (names_in (added m r) space)
@@ -115,13 +110,13 @@ names_added m (record_of.Force r) distinct new space = distinct space
 
 -- no kind gets too many
 limits_added : (m : Lists) (r : Record) → KeepsLimits m → is_too_many m r ≡ false → KeepsLimits (added m r)
-limits_added m (record_of.Material r) k room = record { materials = omega (arith, length-append m.materials (r ∷ []), below _ _ room); sections = k.sections; nodes = k.nodes; elements = k.elements; restraints = k.restraints; cases = k.cases; forces = k.forces }
-limits_added m (record_of.Section r) k room = record { materials = k.materials; sections = omega (arith, length-append m.sections (r ∷ []), below _ _ room); nodes = k.nodes; elements = k.elements; restraints = k.restraints; cases = k.cases; forces = k.forces }
-limits_added m (record_of.Node r) k room = record { materials = k.materials; sections = k.sections; nodes = omega (arith, length-append m.nodes (r ∷ []), below _ _ room); elements = k.elements; restraints = k.restraints; cases = k.cases; forces = k.forces }
-limits_added m (record_of.Element r) k room = record { materials = k.materials; sections = k.sections; nodes = k.nodes; elements = omega (arith, length-append m.elements (r ∷ []), below _ _ room); restraints = k.restraints; cases = k.cases; forces = k.forces }
-limits_added m (record_of.Restraint r) k room = record { materials = k.materials; sections = k.sections; nodes = k.nodes; elements = k.elements; restraints = omega (arith, length-append m.restraints (r ∷ []), below _ _ room); cases = k.cases; forces = k.forces }
-limits_added m (record_of.Case r) k room = record { materials = k.materials; sections = k.sections; nodes = k.nodes; elements = k.elements; restraints = k.restraints; cases = omega (arith, length-append m.cases (r ∷ []), below _ _ room); forces = k.forces }
-limits_added m (record_of.Force r) k room = record { materials = k.materials; sections = k.sections; nodes = k.nodes; elements = k.elements; restraints = k.restraints; cases = k.cases; forces = omega (arith, length-append m.forces (r ∷ []), below _ _ room) }
+limits_added m (record_of.Material r) k room = record { materials = omega (arith, length-append m.materials (r ∷ []), leb-false _ _ room); sections = k.sections; nodes = k.nodes; elements = k.elements; restraints = k.restraints; cases = k.cases; forces = k.forces }
+limits_added m (record_of.Section r) k room = record { materials = k.materials; sections = omega (arith, length-append m.sections (r ∷ []), leb-false _ _ room); nodes = k.nodes; elements = k.elements; restraints = k.restraints; cases = k.cases; forces = k.forces }
+limits_added m (record_of.Node r) k room = record { materials = k.materials; sections = k.sections; nodes = omega (arith, length-append m.nodes (r ∷ []), leb-false _ _ room); elements = k.elements; restraints = k.restraints; cases = k.cases; forces = k.forces }
+limits_added m (record_of.Element r) k room = record { materials = k.materials; sections = k.sections; nodes = k.nodes; elements = omega (arith, length-append m.elements (r ∷ []), leb-false _ _ room); restraints = k.restraints; cases = k.cases; forces = k.forces }
+limits_added m (record_of.Restraint r) k room = record { materials = k.materials; sections = k.sections; nodes = k.nodes; elements = k.elements; restraints = omega (arith, length-append m.restraints (r ∷ []), leb-false _ _ room); cases = k.cases; forces = k.forces }
+limits_added m (record_of.Case r) k room = record { materials = k.materials; sections = k.sections; nodes = k.nodes; elements = k.elements; restraints = k.restraints; cases = omega (arith, length-append m.cases (r ∷ []), leb-false _ _ room); forces = k.forces }
+limits_added m (record_of.Force r) k room = record { materials = k.materials; sections = k.sections; nodes = k.nodes; elements = k.elements; restraints = k.restraints; cases = k.cases; forces = omega (arith, length-append m.forces (r ∷ []), leb-false _ _ room) }
 
 -- a record of a built kind leaves the others out
 others_added : (m : Lists) (r : Record) → HasNoOtherKinds m → HasNoOtherKinds (added m r)
@@ -188,7 +183,7 @@ KeepsRules-added m (record_of.Restraint r) k form passes = record {
   sections = k.sections;
   nodes = k.nodes;
   elements = k.elements;
-  restraints = All-push (KeepsRestraint m.nodes) m.restraints r k.restraints (record { name = form.0; node = below _ _ passes.known; kind = form.1 });
+  restraints = All-push (KeepsRestraint m.nodes) m.restraints r k.restraints (record { name = form.0; node = leb-false _ _ passes.known; kind = form.1 });
   cases = k.cases;
   forces = k.forces;
   names = names_added m (record_of.Restraint r) k.names passes.named;

@@ -5,14 +5,14 @@ use crate::ids::{CaseId, ElementId, NodeId, RestraintId};
 use std::marker::Model;
 
 /// A number lies between `lo` and `hi`, in the scale of its kind.
-#[derive(Clone, Copy, Debug, PartialEq, Eq)]
+#[derive(Clone, Copy)]
 pub struct Bounds {
     pub lo: i128,
     pub hi: i128,
 }
 
 /// Why a case is not certified. Freedoms are `ux uy uz rx ry rz`, numbered 0 to 5.
-#[derive(Clone, Copy, Debug, PartialEq, Eq)]
+#[derive(Clone, Copy)]
 pub enum Cause {
     /// The members of the element leave their limits.
     WidthElement(ElementId),
@@ -37,7 +37,7 @@ pub enum Cause {
 }
 
 /// Values of an answer, in the order that the answer says.
-#[derive(Debug, Drop)]
+#[derive(Drop)]
 pub struct Values<T> {
     items: Vec<T>,
 }
@@ -88,7 +88,7 @@ impl<T> Values<T> {
 }
 
 /// The answer of a load case.
-#[derive(Debug, Drop)]
+#[derive(Drop)]
 pub enum CaseAnswer {
     /// Every equilibrium lies within these bounds.
     Certified {
@@ -108,7 +108,7 @@ pub enum CaseAnswer {
 }
 
 /// The answer of one station of a check. Stresses are in 2^-16 Pa.
-#[derive(Clone, Copy, Debug, PartialEq, Eq)]
+#[derive(Clone, Copy)]
 pub enum StationAnswer {
     Judged { stress: Bounds, allowable: Bounds },
     /// A number of the stress leaves its limits.
@@ -116,7 +116,7 @@ pub enum StationAnswer {
 }
 
 /// The answer of a code check.
-#[derive(Debug, Drop)]
+#[derive(Drop)]
 pub enum CheckAnswer {
     /// For each element in order the end `from`, then `to`.
     Stations(Values<StationAnswer>),

@@ -1,5 +1,5 @@
 //! A model in the making: records come one by one, and each is judged against those before it.
-ghost use Rattle.std.specs.Prelude.{◌≡◌, ◌↔◌, ◌*◌, ◌≤◌, ◌^◌, ℕ, pos, ◌*ℤ◌, int_le, length, [], Some, None, Err, IsNone, IfSome, OnOk, OnErr, IsErr, IfOk, IfErr, Contains, slice_get};
+ghost use Rattle.std.specs.Prelude.{◌≡◌, ◌≢◌, ◌↔◌, ◌*◌, ◌≤◌, ◌^◌, ℕ, pos, ◌*ℤ◌, int_le, length, [], Some, None, Err, IsNone, IfSome, OnOk, OnErr, IsErr, IfOk, IfErr, Contains, slice_get};
 ghost use Rattle.model_types.specs.Lists.{names_in, number_of, no_records, added};
 ghost use Rattle.model_types.specs.Ranges.{InForm, NodeInForm, IsIn, coordinate, wall};
 ghost use Rattle.model_types.specs.Rules.{KeepsRules, IsModel, square_distance as square_between, square_difference as square_from};
@@ -155,10 +155,20 @@ impl Draft {
         ensures missing { IsErr result ↔ (self.nodes ≡ []) }
         ensures fault { IfErr result (λ fault. fault ≡ WholeFault.Missing) }
     {
-        if self.nodes.len() == 0 {
+        if self.count(Space::Node) == 0 {
+            drop(self);
             return Err(WholeFault::Missing);
         }
-        Ok(Model {
+        Ok(self.into_model())
+    }
+
+    // The model of records among which there is a node.
+    fn into_model(self) -> Model
+        requires { self.nodes ≢ [] }
+        ensures model { result ≡ self }
+        ensures rules { IsModel self }
+    {
+        Model {
             materials: self.materials.into_vec(),
             sections: self.sections.into_vec(),
             nodes: self.nodes.into_vec(),
@@ -171,7 +181,7 @@ impl Draft {
             forces: self.forces,
             moves: self.moves,
             checks: self.checks.into_vec(),
-        })
+        }
     }
 
     // Whether the record's name is there in its space.

@@ -3,7 +3,7 @@ use crate::ids::{CaseId, CheckId, ElementId, MaterialId, NodeId, RestraintId, Se
 use text_words::Name;
 
 /// A pipe material.
-#[derive(Clone, Copy, Debug, PartialEq, Eq)]
+#[derive(Clone, Copy)]
 pub struct Material {
     /// Its name among the materials.
     pub name: Name,
@@ -18,7 +18,7 @@ pub struct Material {
 }
 
 /// A pipe section.
-#[derive(Clone, Copy, Debug, PartialEq, Eq)]
+#[derive(Clone, Copy)]
 pub struct Section {
     /// Its name among the sections.
     pub name: Name,
@@ -35,7 +35,7 @@ pub struct Section {
 }
 
 /// A node, with its place in micrometres; z points up. Each coordinate is within 10,000,000,000 of 0.
-#[derive(Clone, Copy, Debug, PartialEq, Eq)]
+#[derive(Clone, Copy)]
 pub struct Node {
     /// Its name among the nodes.
     pub name: Name,
@@ -45,7 +45,7 @@ pub struct Node {
 }
 
 /// A pipe element between two nodes.
-#[derive(Clone, Copy, Debug, PartialEq, Eq)]
+#[derive(Clone, Copy)]
 pub struct Element {
     /// Its name among the elements.
     pub name: Name,
@@ -56,14 +56,14 @@ pub struct Element {
 }
 
 /// The shape of an element.
-#[derive(Clone, Copy, Debug, PartialEq, Eq)]
+#[derive(Clone, Copy)]
 pub enum Shape {
     /// A straight pipe.
     Straight,
 }
 
 /// A branch connection: the stress intensification of the elements that end at a node.
-#[derive(Clone, Copy, Debug, PartialEq, Eq)]
+#[derive(Clone, Copy)]
 pub struct Tee {
     pub node: NodeId,
     pub branch: ElementId,
@@ -72,7 +72,7 @@ pub struct Tee {
 }
 
 /// How a branch connection is made.
-#[derive(Clone, Copy, Debug, PartialEq, Eq)]
+#[derive(Clone, Copy)]
 pub enum TeeKind {
     /// An unreinforced fabricated tee.
     Unreinforced,
@@ -83,7 +83,7 @@ pub enum TeeKind {
 }
 
 /// A restraint of a node.
-#[derive(Clone, Copy, Debug, PartialEq, Eq)]
+#[derive(Clone, Copy)]
 pub struct Restraint {
     /// Its name among the restraints.
     pub name: Name,
@@ -92,7 +92,7 @@ pub struct Restraint {
 }
 
 /// What a restraint holds. Directions have parts within 1,000,000 of 0, not all 0; only their ratio counts.
-#[derive(Clone, Copy, Debug, PartialEq, Eq)]
+#[derive(Clone, Copy)]
 pub enum RestraintKind {
     /// All six freedoms: KT in N/m and KR in N m/rad, each 1 to 2,000,000,000,000, by default 10,000,000,000.
     Anchor {
@@ -116,7 +116,7 @@ pub enum RestraintKind {
 }
 
 /// A load case.
-#[derive(Clone, Copy, Debug, PartialEq, Eq)]
+#[derive(Clone, Copy)]
 pub struct Case {
     /// Its name among the cases.
     pub name: Name,
@@ -133,7 +133,7 @@ pub struct Case {
 }
 
 /// A case's change of temperature for one section, in millikelvin, within 1,000,000 of 0.
-#[derive(Clone, Copy, Debug, PartialEq, Eq)]
+#[derive(Clone, Copy)]
 pub struct Temp {
     pub case: CaseId,
     pub section: SectionId,
@@ -141,7 +141,7 @@ pub struct Temp {
 }
 
 /// A case's pressure for one section, in Pa, 0 to 100,000,000.
-#[derive(Clone, Copy, Debug, PartialEq, Eq)]
+#[derive(Clone, Copy)]
 pub struct Pressure {
     pub case: CaseId,
     pub section: SectionId,
@@ -149,7 +149,7 @@ pub struct Pressure {
 }
 
 /// A load on a node in a case: forces in mN and moments in mN m, each within 1,000,000,000,000 of 0. Several at one node add.
-#[derive(Clone, Copy, Debug, PartialEq, Eq)]
+#[derive(Clone, Copy)]
 pub struct Force {
     pub case: CaseId,
     pub node: NodeId,
@@ -162,7 +162,7 @@ pub struct Force {
 }
 
 /// The movement of an anchor in a case, in micrometres, each part within 1,000,000 of 0.
-#[derive(Clone, Copy, Debug, PartialEq, Eq)]
+#[derive(Clone, Copy)]
 pub struct Move {
     pub case: CaseId,
     pub anchor: RestraintId,
@@ -172,7 +172,7 @@ pub struct Move {
 }
 
 /// A code check.
-#[derive(Clone, Copy, Debug, PartialEq, Eq)]
+#[derive(Clone, Copy)]
 pub struct Check {
     /// Its name among the checks.
     pub name: Name,
@@ -180,7 +180,7 @@ pub struct Check {
 }
 
 /// What a check compares. Allowable stresses are in kPa, 1 to 2,000,000.
-#[derive(Clone, Copy, Debug, PartialEq, Eq)]
+#[derive(Clone, Copy)]
 pub enum CheckKind {
     /// ASME B31.3-2016, 302.3.5(c).
     Sustained {
@@ -207,7 +207,7 @@ pub enum CheckKind {
 }
 
 /// A record of the model text.
-#[derive(Clone, Copy, Debug, PartialEq, Eq)]
+#[derive(Clone, Copy)]
 pub enum Record {
     Material(Material),
     Section(Section),
