@@ -1,4 +1,5 @@
-use Rattle.std.proofs.Common.{◌≡◌, ◌+◌, ◌-◌, ◌≤◌, ℕ, List, Option, None, Some, ◌++◌, arith, refl, sym, ap, ◌∙◌, take, drop, length, append_assoc, take-append-drop, length-append, length-take-le}
+use Rattle.std.proofs.Common.{◌≡◌, true, false, true≢false, ◌==◌, [], ◌∷◌, append-nil, subst, ◌+◌, ◌-◌, ◌≤◌, ℕ, List, Option, None, Some, ◌++◌, arith, refl, sym, ap, ◌∙◌, take, drop, length, append_assoc, take-append-drop, length-append, length-take-le}
+use Rattle.std.proofs.Math.Dec.{eqb-suc-zero}
 use Rattle.std.proofs.lemmas.List.{take_rest}
 use Rattle.std.specs.Io.KnownBytes.{Appends}
 use Rattle.std.proofs.KnownBytes.{Appends-trans}
@@ -28,6 +29,15 @@ written_more a b c before between after all part rest n fits first split used se
       left ∙ ap (λ room. room_after room n) used ∙ room_after-room_after before (length part) n ∙ ap (room_after before) (sym long),
     )
 
+-- nothing is left to write
+all_written : (all part rest : List ℕ) → true ≡ (length rest == 0) → all ≡ part ++ rest → all ≡ part
+all_written all part [] done split = split ∙ append-nil part
+all_written all part (x ∷ rest) done split = absurd (true≢false (done ∙ eqb-suc-zero (length rest)))
+
+-- what failed isn't well
+failed_ok : false ≡ true → ⊥
+failed_ok e = true≢false (sym e)
+
 pub loop-rest-preserved : goal.loop-rest-preserved
 loop-rest-preserved g c =
     let before = c.loop-rest.invariant in
@@ -41,3 +51,23 @@ loop-rest-preserved g c =
       steady = λ fits. write.steady (HasRoom-rest _ _ _ before.written.0 rest before.written.2 before.written.3 fits) ∙ before.steady fits;
       untouched = λ none. absurd (omega (arith, write.some, write.bound, ap length (sym before.written.2 ∙ none), length-append before.written.0 rest));
     }
+
+pub returns-clause-ok : goal.returns-clause-ok
+returns-clause-ok g c =
+    let before = c.loop-rest.invariant.written in
+    subst (Appends (g.K.Sink.held c.args.k.now) (g.K.Sink.held c.loop-rest.k)) (sym (all_written _ before.0 c.loop-rest.rest.now c.loop-rest-test.ensures before.2)) before.1
+
+pub returns-clause-room_left : goal.returns-clause-room_left
+returns-clause-room_left g c =
+    let before = c.loop-rest.invariant.written in
+    before.3 ∙ ap (λ xs. room_after (g.K.Sink.room c.args.k.now) (length xs)) (sym (all_written _ before.0 c.loop-rest.rest.now c.loop-rest-test.ensures before.2))
+
+pub returns-in_err-n-clause-fits : goal.returns-in_err-n-clause-fits
+returns-in_err-n-clause-fits g c = λ room.
+    let before = c.loop-rest.invariant.written in
+    absurd (failed_ok (c.in_err-n.ensures.fits (HasRoom-rest _ _ _ before.0 c.loop-rest.rest.now before.2 before.3 room)))
+
+pub returns-in_err-n-clause-steady : goal.returns-in_err-n-clause-steady
+returns-in_err-n-clause-steady g c = λ room.
+    let before = c.loop-rest.invariant.written in
+    absurd (failed_ok (c.in_err-n.ensures.fits (HasRoom-rest _ _ _ before.0 c.loop-rest.rest.now before.2 before.3 room)))
