@@ -79,7 +79,10 @@ fn read_lines(alloc: Global, text: &[u8]) -> Result<Model, TextFault>
     };
     match take_lines(&mut reading, text) {
         Ok(()) => whole(reading),
-        Err(fault) => Err(fault),
+        Err(fault) => {
+            drop(reading);
+            Err(fault)
+        }
     }
 }
 
@@ -91,6 +94,7 @@ fn whole(reading: Reading) -> Result<Model, TextFault>
         → grammar.whole (Ok reading) ≡ Err (record { number = number; line = line }) }
 {
     if !reading.header {
+        drop(reading);
         return Err(TextFault::Refused { number: 3, line: 1 });
     }
     match reading.draft.finish() {
@@ -132,7 +136,9 @@ pub fn node_line(alloc: Global, text: &[u8], node: NodeId) -> Result<u32, NoMemo
         header: false,
         draft,
     };
-    line_of_node(&mut reading, text, node)
+    let line = line_of_node(&mut reading, text, node);
+    drop(reading);
+    line
 }
 
 // The line that makes the node of that number, of a text that nothing has been read of.
