@@ -1,4 +1,5 @@
-use Rattle.std.proofs.Common.{arith, ap, sym, subst, ◌∙◌, ◌≡◌, ◌≤◌, ◌+◌, ◌*◌, ◌/◌, ◌^◌, length, All, ℕ, List}
+use Rattle.std.proofs.Common.{arith, add-one, ap, sym, subst, ◌∙◌, ◌≡◌, ◌≤◌, ◌+◌, ◌*◌, ◌/◌, ◌^◌, length, All, ℕ, List}
+use Rattle.std.proofs.lemmas.Int.{ints}
 use Rattle.int_laws.specs.Sums.{sum_below}
 use Rattle.sym_blocks.specs.Matrix.{entry}
 use Rattle.factor_data.specs.Order.{freedom_at}
@@ -19,3 +20,15 @@ returns c =
     c.loop-s.invariant.sum ∙ ap (sum c.pattern-nodes.result.now) end
     ∙ ap (λ (nodes : List ℕ). sum nodes (6 * length nodes)) c.pattern-nodes.ensures.value
     ∙ sum-blocks radii row (entry radii row) c.pattern-nodes.ensures.kept (λ j inside outside. c.pattern-nodes.ensures.kept.outside row j outside)
+
+pub loop-s-preserved : goal.loop-s-preserved
+loop-s-preserved c =
+    let s = c.loop-s.s in
+    let here = c.get.ensures.value ∙ ap (entry c.args.radii.now c.args.row) c.freedom_at.ensures in
+    let up = c.requires.not_negative c.args.row c.freedom_at.result in
+    let small = c.requires.small c.args.row c.freedom_at.result in
+    let same = c.get.ensures.value in
+    record {
+      sum = rw (add-one s) (omega (arith, ints, c.loop-s.invariant.sum, here, up, same));
+      bound = omega (arith, ints, c.loop-s.invariant.bound, up, small, same);
+    }

@@ -1,4 +1,4 @@
-use Rattle.std.proofs.Common.{rules, arith, ap, sym, subst, ◌∙◌, ◌≡◌, ◌≤◌, ◌+◌, ◌*◌, ◌/◌, ◌^◌, pos, All, ℕ, List, to_z-of_z}
+use Rattle.std.proofs.Common.{rules, arith, ap, refl, sym, subst, ◌∙◌, ◌≡◌, ◌≤◌, ◌+◌, ◌*◌, ◌/◌, ◌^◌, pos, All, ℕ, List, to_z-of_z}
 use Rattle.std.proofs.lemmas.List.{get_or_default}
 use mir.Syntax.{w128}
 use mir.Val.{SFits}
@@ -8,7 +8,7 @@ use Rattle.certificate.specs.QuadraticForm.{absolute}
 use Rattle.factor_data.specs.Order.{freedom_at}
 use Rattle.certificate.specs.RowSums.{value_at}
 use Rattle.certificate.specs.RowResidual.{missed}
-use Rattle.factor_data.proofs.OrderLemmas.{column-below}
+use Rattle.factor_data.proofs.OrderLemmas.{column-below, row-below}
 use Rattle.certificate.proofs.PatternLemmas.{pattern-numbered}
 use Rattle.certificate.proofs.ResidualLemmas.{nodes-spread, taken-step, others-step, missed-whole, missed-part, missed-more}
 use Rattle.certificate.proofs.blocks.take_residuals.Goals as goal
@@ -69,3 +69,20 @@ returns-clause-some c = (
       c.pattern-nodes.ensures.kept c.pattern-nodes.ensures.value c.requires.row c.requires.places c.requires.nodes (c.loop-s.invariant.same ∙ c.requires.positions)
       c.loop-s-test.false c.loop-s.auto.s-end c.loop-s.invariant.sum c.loop-s.invariant.taken c.loop-s.invariant.others,
 )
+
+pub freedom_at-requires-clause-inside : goal.freedom_at-requires-clause-inside
+freedom_at-requires-clause-inside c = c.loop-s-test.true
+
+pub loop-s-init : goal.loop-s-init
+loop-s-init c = record { same = refl; small = omega arith; sum = refl; taken = λ u below. absurd (omega arith); others = λ j apart. refl }
+
+pub take_residual-missed-requires-clause-small : goal.take_residual-missed-requires-clause-small
+take_residual-missed-requires-clause-small c = c.requires.small
+
+pub take_residual-missed-requires-clause-inside : goal.take_residual-missed-requires-clause-inside
+take_residual-missed-requires-clause-inside c =
+    let below = row-below c.args.places.now c.freedom_at.result c.requires.places (take_residual-missed-requires-clause-column c) in
+    omega (arith, below, c.requires.nodes, c.requires.positions, c.loop-s.invariant.same)
+
+pub with_size-requires : goal.with_size-requires
+with_size-requires c = c.loop-s.invariant.small

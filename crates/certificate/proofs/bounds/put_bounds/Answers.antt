@@ -1,9 +1,9 @@
-use Rattle.std.proofs.Common.{rules, ◌^◌, subst, FitsSigned, to_z-of_z, ℤ, pos, ◌≤ℤ◌}
+use Rattle.std.proofs.Common.{rules, ◌^◌, ◌∙◌, sym, subst, FitsSigned, to_z-of_z, ℤ, pos, ◌≤ℤ◌}
 use Rattle.std.specs.Int.{w128}
 use Rattle.std.proofs.lemmas.Result.{err_from_is_err_and, on_ok_weaker, on_err_weaker}
 use Rattle.member_set.specs.Members.{member_of}
-use Rattle.certificate.specs.Bounds.{unsteady}
-use Rattle.certificate.specs.Enclosure.{force_radius_of}
+use Rattle.certificate.specs.Bounds.{far, unsteady}
+use Rattle.certificate.specs.Enclosure.{displacement_radius_of, force_radius_of}
 use Rattle.certificate.proofs.BoundsLemmas.{forces_limited, bounds_enclose}
 use Rattle.certificate.proofs.bounds.put_bounds.Goals as goal
 
@@ -41,3 +41,13 @@ returns-clause-wide c =
     unsteady found.member found.inside
     (subst (λ (n : ℤ). pos (2 ^ 60) ≤ℤ force_radius_of c.args.lambda n (member_of c.args.b.now found.member).kappa.hi) c.in_ok-size.ensures.value found.unsteady))
     too_unsteady
+
+pub widen_displacements-requires-clause-one_each : goal.widen_displacements-requires-clause-one_each
+widen_displacements-requires-clause-one_each c = c.requires.one_bound_each ∙ sym c.requires.one_displacement_each
+
+pub returns-in_err-displacement_radius-clause-wide : goal.returns-in_err-displacement_radius-clause-wide
+returns-in_err-displacement_radius-clause-wide c =
+    let size_fits : FitsSigned w128 c.in_ok-size.size = search rules in
+    let p = err_from_is_err_and c.from_residual-in_err-displacement_radius.result c.from_residual-in_err-displacement_radius.ensures.1 in
+    let wide = rw (to_z-of_z c.ranges.lambda, to_z-of_z size_fits) at c.in_err-displacement_radius.ensures.wide in
+    rw p.1 (far (subst (λ (n : ℤ). pos (2 ^ 60) ≤ℤ displacement_radius_of c.args.lambda n) c.in_ok-size.ensures.value wide))

@@ -1,8 +1,10 @@
-use Rattle.std.proofs.Common.{rules, ◌≡◌, ℕ, ◌<◌, ◌⊎◌, inl, inr, sym, refl, subst, arith, FitsSigned, to_z-of_z, ℤ, pos, ◌*ℤ◌, ◌≤ℤ◌}
+use Rattle.std.proofs.Common.{rules, ◌≡◌, ℕ, ◌<◌, ◌⊎◌, inl, inr, sym, ◌∙◌, ap, refl, subst, arith, FitsSigned, to_z-of_z, ℤ, pos, ◌*ℤ◌, ◌≤ℤ◌, ◌<ℤ◌, ◌^◌}
 use Rattle.std.specs.Prelude.{IsOk, IsErr}
 use Rattle.std.specs.Int.{w128}
 use Rattle.std.proofs.lemmas.Result.{err_from_is_err_and}
 use Rattle.int_laws.specs.Sums.{sum_below}
+use Rattle.int_laws.proofs.Sums.{int_sums}
+use Rattle.flex_num.specs.Root.{root_up_of}
 use Rattle.flex_interval.specs.Ends.{Ends}
 use Rattle.flex_interval.specs.Fraction.{Within}
 use Rattle.member_set.specs.Members.{row_count}
@@ -77,3 +79,30 @@ returns-clause-is_length c = λ r real.
     let enough = subst (λ (z : ℤ). z ≤ℤ (size *ℤ size)) sum c.root_of_squares.ensures.enough in
     rw (to_z-of_z fits)
     (sizes_give_length r c.args.u.now residual size (λ row inside. c.loop-row.invariant.within r real row (omega (arith, done, inside))) enough)
+
+pub loop-row-init : goal.loop-row-init
+loop-row-init c = record { short = omega arith; sum = refl; residuals = λ row below. absurd (omega arith); within = λ r real row below. absurd (omega arith) }
+
+pub returns-clause-residuals : goal.returns-clause-residuals
+returns-clause-residuals c = λ row below. c.loop-row.invariant.residuals row (omega (arith, c.requires.lists.one_load_each))
+
+pub returns-clause-short : goal.returns-clause-short
+returns-clause-short c =
+    let done : c.loop-row.row ≡ row_count c.args.b.now = omega (arith, c.requires.lists.one_load_each) in
+    let residual = residual_at c.args.b.now c.args.laws.now c.args.loads.now c.args.u.now in
+    let sum = subst (λ (n : ℕ). pos c.loop-row.sum ≡ sum_below n (λ row. square_of (residual row))) done c.loop-row.invariant.sum in
+    let short : pos c.loop-row.sum <ℤ pos (2 ^ 126) = omega (arith, int_sums, c.loop-row.invariant.short) in
+    subst (λ (z : ℤ). z <ℤ pos (2 ^ 126)) sum short
+
+pub returns-clause-value : goal.returns-clause-value
+returns-clause-value c =
+    let fits : FitsSigned w128 c.root_of_squares.result = search rules in
+    let done : c.loop-row.row ≡ row_count c.args.b.now = omega (arith, c.requires.lists.one_load_each) in
+    let residual = residual_at c.args.b.now c.args.laws.now c.args.loads.now c.args.u.now in
+    let sum = subst (λ (n : ℕ). pos c.loop-row.sum ≡ sum_below n (λ row. square_of (residual row))) done c.loop-row.invariant.sum in
+    to_z-of_z fits ∙ c.root_of_squares.ensures.value ∙ ap root_up_of sum
+
+pub returns-clause-bounded : goal.returns-clause-bounded
+returns-clause-bounded c =
+    let fits : FitsSigned w128 c.root_of_squares.result = search rules in
+    rw (to_z-of_z fits) c.root_of_squares.ensures.bounded

@@ -2,6 +2,7 @@ use Rattle.std.proofs.Common.{rules, ◌≡◌, ◌<◌, ◌⊎◌, inl, inr, le
 use Rattle.std.specs.Int.{w128}
 use Rattle.std.proofs.Math.ListN.{length-set}
 use Rattle.std.proofs.lemmas.List.{get_or_read_under}
+use Rattle.std.proofs.lemmas.Result.{err_from_is_err_and}
 use Rattle.member_set.specs.Members.{nothing, no_member, member_of}
 use Rattle.certificate.proofs.BoundsLemmas.{force_wider}
 use Rattle.certificate.proofs.bounds.widen_forces.Goals as goal
@@ -35,3 +36,30 @@ loop-k-preserved c =
             | inr same ↦ rw same small
           ];
     }
+
+pub force_radius-requires-clause-stiff : goal.force_radius-requires-clause-stiff
+force_radius-requires-clause-stiff c =
+    let k = c.loop-k.k in
+    let inside : k < length c.args.b.now.members = omega (arith, c.loop-k.invariant.one_each) in
+    let listed : c.index-as_slice-k.result ≡ get_or c.args.b.now.members k c.index-as_slice-k.result = rw (← c.as_slice.ensures) c.index-as_slice-k.is in
+    let own = get_or_read_under c.args.b.now.members k _ c.index-as_slice-k.result no_member listed inside refl in
+    let at_slice : get_or c.as_slice.result.now k c.index-as_slice-k.result ≡ member_of c.args.b.now k = sym c.index-as_slice-k.is ∙ own in
+    rw at_slice (c.requires.stiff k inside)
+
+pub returns-in_err-radius-clause-unsteady : goal.returns-in_err-radius-clause-unsteady
+returns-in_err-radius-clause-unsteady c =
+    let k = c.loop-k.k in
+    let inside : k < length c.args.b.now.members = omega (arith, c.loop-k.invariant.one_each) in
+    let listed : c.index-as_slice-k.result ≡ get_or c.args.b.now.members k c.index-as_slice-k.result = rw (← c.as_slice.ensures) c.index-as_slice-k.is in
+    let own = get_or_read_under c.args.b.now.members k _ c.index-as_slice-k.result no_member listed inside refl in
+    let at_slice : get_or c.as_slice.result.now k c.index-as_slice-k.result ≡ member_of c.args.b.now k = sym c.index-as_slice-k.is ∙ own in
+    let wide = rw (to_z-of_z c.ranges.lambda, to_z-of_z c.ranges.size, at_slice) at c.in_err-radius.ensures.wide in
+    let p = err_from_is_err_and c.from_residual.result c.from_residual.ensures.1 in
+    rw p.1 (record { member = k; inside = inside; unsteady = wide })
+
+pub returns-clause-widened : goal.returns-clause-widened
+returns-clause-widened c = record {
+  one_each = c.loop-k.invariant.one_each;
+  wider = λ k inside. rw (to_z-of_z c.ranges.lambda, to_z-of_z c.ranges.size) at c.loop-k.invariant.wider k (omega (arith, c.loop-k.invariant.one_each));
+  steady = λ k inside. rw (to_z-of_z c.ranges.lambda, to_z-of_z c.ranges.size) at c.loop-k.invariant.steady k (omega (arith, c.loop-k.invariant.one_each));
+}

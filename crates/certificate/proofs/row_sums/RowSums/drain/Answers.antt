@@ -39,3 +39,13 @@ returns-clause-some c =
     let clear = tracked-nothing sums c.loop-at.self-inside.touched.items _ c.loop-at.invariant.tracked (omega (arith, c.in_default.ensures.cases.0, c.loop-at.self-inside.touched.ok)) in
     let whole = ap (λ (xs : List Sum). pos c.args.total +ℤ sizes_total xs) c.self.view_is in
     (c.loop-at.invariant.small, omega (arith, ints, sizes-clear sums clear, whole, c.loop-at.invariant.whole))
+
+pub loop-at-init : goal.loop-at-init
+loop-at-init c = record { tracked = c.self.invariant; same = refl; small = c.requires; whole = refl }
+
+pub with_size-requires : goal.with_size-requires
+with_size-requires c = c.loop-at.invariant.small
+
+pub returns-clause-clear : goal.returns-clause-clear
+returns-clause-clear c =
+    tracked-nothing c.loop-at.self-inside.sums.items c.loop-at.self-inside.touched.items _ c.loop-at.invariant.tracked (omega (arith, c.in_default.ensures.cases.0, c.loop-at.self-inside.touched.ok))
