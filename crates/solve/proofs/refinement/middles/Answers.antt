@@ -1,3 +1,9 @@
+use Rattle.std.specs.Prelude.{IsErr, slice_set}
+use Rattle.std.proofs.Common.{rules, arith, ◌≡◌, ◌<◌, ◌⊎◌, inl, inr, refl, sym, subst, ◌∙◌, length, get_or-set_same, get_or-set_other, FitsSigned, to_z-of_z, ℤ, pos}
+use Rattle.std.specs.Int.{w128}
+use Rattle.member_set.specs.Interval.{Outcome, residual_of}
+use Rattle.solve.specs.Substitution.{at}
+use Rattle.solve.specs.Refinement.{IsMiddle}
 use Rattle.std.proofs.lemmas.Result.{err_from_is_err_and}
 use Rattle.solve.proofs.refinement.middles.Goals as goal
 
@@ -6,3 +12,28 @@ returns-in_err-member_forces-clause-none c =
     let p = err_from_is_err_and c.from_residual.result c.from_residual.ensures.1 in
     let broken = c.in_err-member_forces.ensures.fault c.args.loads.now in
     rw p.1 (record { row = broken.0; inside = broken.1; none = broken.2 })
+
+pub returns-in_err-residual_from-clause-none : goal.returns-in_err-residual_from-clause-none
+returns-in_err-residual_from-clause-none c =
+    let p = err_from_is_err_and c.from_residual-in_err-residual_from.result c.from_residual-in_err-residual_from.ensures.1 in
+    let at_row = c.in_err-residual_from.ensures.at_displacements c.args.laws.now c.args.u.now c.in_ok-member_forces.ensures.forces in
+    rw p.1 (record { row = c.loop-row.row; inside = omega (arith, c.requires.one_middle_each); none = subst (λ (o : Outcome). IsErr o) at_row refl })
+
+pub loop-row-preserved : goal.loop-row-preserved
+loop-row-preserved c =
+    let row = c.loop-row.row in
+    let r = c.loop-row.r in
+    let residual = residual_of c.args.b.now c.args.laws.now c.args.loads.now c.args.u.now in
+    let fits : FitsSigned w128 c.middle.result = search rules in
+    let inside : row < length r = omega (arith, c.loop-row.auto.r) in
+    let at_row = c.in_ok-residual_from.ensures.at_displacements c.args.laws.now c.args.u.now c.in_ok-member_forces.ensures.forces in
+    rw (to_z-of_z fits)
+    (λ k below.
+    let side : (k < row) ⊎ (k ≡ row) = search arith in
+    elim side [
+      | inl less ↦ subst (λ (m : ℤ). IsMiddle (residual k) m) (sym (get_or-set_other r row k c.middle.result (pos 0) (omega arith))) (c.loop-row.invariant k less)
+      | inr same ↦
+          let here : IsMiddle (residual row) (at (slice_set r row c.middle.result) row) =
+          record { interval = c.in_ok-residual_from.field-0; found = sym at_row; middle = get_or-set_same r row c.middle.result (pos 0) inside ∙ c.middle.ensures } in
+          rw same here
+    ])

@@ -1,6 +1,7 @@
 use Rattle.std.proofs.Common.{◌^◌, ◌<◌, ◌≤◌, get_or, length, arith, rules, FitsSigned, to_z-of_z, ℤ, pos}
 use Rattle.std.specs.Prelude.{unsigned_abs}
 use Rattle.std.specs.Int.{w128}
+use Rattle.std.proofs.lemmas.Result.{err_from_is_err_and}
 use Rattle.std.proofs.lemmas.List.Elements.{All-set}
 use Rattle.factor_data.proofs.OrderLemmas.{row-below}
 use Rattle.solve.proofs.Moving.{move-step}
@@ -21,3 +22,21 @@ loop-j-preserved c =
           c.row_at-row.ensures in_list sum c.loop-j.invariant.moving;
       moderate = All-set (λ (z : ℤ). unsigned_abs z ≤ 2 ^ 60) c.loop-j.u row c.in_ok-u.field-0 c.in_ok-u.ensures.moderate c.loop-j.invariant.moderate;
     })
+
+pub bounds-u-row : goal.bounds-u-row
+bounds-u-row c =
+    let below = row-below c.args.order.now c.loop-j.j c.requires.order (omega (arith, c.requires.six_rows_each)) in
+    omega (arith, below, c.row_at-row.ensures, c.requires.six_rows_each, c.requires.one_each)
+
+pub returns-in_err-u-clause-too_far : goal.returns-in_err-u-clause-too_far
+returns-in_err-u-clause-too_far c =
+    let j = c.loop-j.j in
+    let p = err_from_is_err_and c.from_residual.result c.from_residual.ensures.1 in
+    let from_fits : FitsSigned w128 (get_or c.loop-j.u c.row_at-row.result (pos 0)) = search rules in
+    let by_fits : FitsSigned w128 (get_or c.args.z.now j (pos 0)) = search rules in
+    let was = c.loop-j.invariant.moving.rest j (omega arith) c.loop-j-test.true in
+    let passes = rw (to_z-of_z from_fits, to_z-of_z by_fits, c.row_at-row.ensures, was) at c.in_err-u.ensures.passes in
+    rw p.1 (record { position = j; inside = c.loop-j-test.true; passes = passes })
+
+pub returns-clause-moved : goal.returns-clause-moved
+returns-clause-moved c = record { one_each = omega (arith, c.requires.one_each); sum = λ j below. c.loop-j.invariant.moving.moved j (omega arith) }

@@ -1,7 +1,8 @@
-use Rattle.std.proofs.Common.{◌<◌, get_or, length, refl, arith, rules, FitsSigned, to_z, of_z, to_z-of_z, pos}
+use Rattle.std.proofs.Common.{◌≡◌, ℕ, ◌<◌, get_or, subst, length, refl, arith, rules, FitsSigned, to_z, of_z, to_z-of_z, pos}
 use Rattle.std.proofs.lemmas.Result.{err_from_is_err_and}
 use Rattle.std.proofs.lemmas.List.{get_or_read_under}
 use Rattle.std.specs.Int.{w64, w128}
+use Rattle.int_laws.proofs.Sums.{int_sums}
 use Rattle.solve.specs.Numerators.{zero_numerator, TakesColumn}
 use Rattle.solve.proofs.ColumnsTaken.{scatter-step, scatter-beyond}
 use Rattle.solve.proofs.substitution.scatter.Goals as goal
@@ -30,3 +31,18 @@ returns-in_err-left-clause-beyond c =
     rw (← to_z-of_z c.ranges.unknown) c.loop-v.invariant in
     let broad = rw (to_z-of_z entry_fits, to_z-of_z c.ranges.unknown, is) at c.in_err-left.ensures.broad in
     rw p.1 (scatter-beyond c.args.left.now c.loop-v.left c.args.rows.now c.args.values.now c.args.j c.args.unknown c.loop-v.v c.loop-v-test.true inside before broad)
+
+pub bounds-left-row : goal.bounds-left-row
+bounds-left-row c = omega (arith, c.requires.in_range c.loop-v.v 0 c.loop-v-test.true)
+
+pub bounds-left-row-in-loop-v : goal.bounds-left-row-in-loop-v
+bounds-left-row-in-loop-v c = omega (arith, c.requires.in_range c.loop-v.v 0 c.loop-v-test.true)
+
+pub returns-clause-taken : goal.returns-clause-taken
+returns-clause-taken c =
+    let done : c.loop-v.v ≡ length c.args.rows.now = omega arith in
+    let so_far = rw (to_z-of_z c.ranges.unknown) at c.loop-v.invariant in
+    subst (λ (places : ℕ). TakesColumn c.args.left.now c.loop-v.left c.args.rows.now c.args.values.now c.args.j c.args.unknown places) done so_far
+
+pub loop-v-init : goal.loop-v-init
+loop-v-init c = record { length_kept = refl; value = λ i past inside. omega (arith, int_sums); size = λ i past inside. omega (arith, int_sums) }
