@@ -1,5 +1,6 @@
-use Rattle.std.proofs.Common.{◌/◌, ◌%◌, subst, arith, get_or, List, ℤ, pos, Some, None, to_z, of_z}
+use Rattle.std.proofs.Common.{◌≡◌, ℕ, ◌+◌, ◌*◌, ◌/◌, ◌%◌, ap, subst, arith, get_or, List, ℤ, pos, Some, None, to_z, of_z}
 use Rattle.std.specs.Int.{w128}
+use Rattle.std.proofs.lemmas.Int.{ints}
 use Rattle.factor.proofs.CastLemmas.{wide_is}
 use Rattle.factor.proofs.EliminateLemmas.{IsEntryAnswer, at_row, from_row, answer_at, pivot_positive, entry_more, pivot_broken, wide_entry, pushed_is}
 use Rattle.factor.proofs.eliminate.eliminate.Goals as goal
@@ -36,3 +37,15 @@ loop-s-preserved c =
     let answer = answer_at c.args.work.now s _ read (subst P c.deref.ensures.value (record { above = c.in-Some.ensures.above; own = c.in-Some.ensures.own; below = c.in-Some.ensures.below })) in
     let done = from_row s (entry_more (s / 6) (s % 6) c.in-Some.entry c.requires.diagonal (at_row s c.loop-s.invariant) (omega arith) answer) in
     rw (c.in_ok-push-in-Some.ensures.items, pushed_is c.loop-s.entries.items c.in-Some.entry done) done
+
+pub panel_entry-requires-clause-small : goal.panel_entry-requires-clause-small
+panel_entry-requires-clause-small c = rw c.deref.ensures.value c.loop-s.invariant.small
+
+pub panel_entry-requires-clause-left_small : goal.panel_entry-requires-clause-left_small
+panel_entry-requires-clause-left_small c = omega (arith, ints, c.requires.small c.loop-s.s (pos 0) c.loop-s-test.true)
+
+pub panel_entry-requires-clause-diagonal : goal.panel_entry-requires-clause-diagonal
+panel_entry-requires-clause-diagonal c same =
+    let s = c.loop-s.s in
+    let own : get_or c.args.work.now (6 * (s % 6) + s % 6) (pos 0) ≡ get_or c.args.work.now s (pos 0) = ap (λ (k : ℕ). get_or c.args.work.now k (pos 0)) (omega (arith, same)) in
+    omega (arith, ints, own, c.requires.diagonal (s % 6) (omega arith), c.requires.small s (pos 0) c.loop-s-test.true)

@@ -1,5 +1,7 @@
 use Rattle.std.proofs.Common.{◌≡◌, ◌<◌, ◌∙◌, ap, sym, arith, ℕ, pos, ◌^◌, ◌-ℤ◌, ◌*ℤ◌, cond}
 use Rattle.std.specs.Int.RustNames.{unsigned_abs}
+use Rattle.std.proofs.lemmas.Int.{ints}
+use Rattle.std.proofs.lemmas.List.{get_or_default}
 use Rattle.std.proofs.lemmas.Bool.{eq-eqb, ne_eqb}
 use Rattle.int_laws.proofs.Sums.{int_sums}
 use Rattle.sym_blocks.specs.Matrix.{entry}
@@ -36,3 +38,28 @@ returns-else-i-j c =
     scaled_whole c.get-stiffness.result small
     ∙ ap (λ z. pos (2 ^ 52) *ℤ (z -ℤ pos 0)) at
     ∙ ap (λ t. pos (2 ^ 52) *ℤ (km (freedom_at p.order.now i) (freedom_at p.order.now j) -ℤ cond t p.shift (pos 0))) (sym (ne_eqb i j c.if-i-j.false))
+
+pub freedom-requires-clause-small : goal.freedom-requires-clause-small
+freedom-requires-clause-small c = λ k d inside.
+    let order = c.args.problem.now.order.now in
+    omega (arith, c.requires.problem.ordered.spread.in_range k inside, c.requires.problem.few, get_or_default order k d 0 inside)
+
+pub freedom-requires-2-clause-small : goal.freedom-requires-2-clause-small
+freedom-requires-2-clause-small c = λ k d inside.
+    let order = c.args.problem.now.order.now in
+    omega (arith, c.requires.problem.ordered.spread.in_range k inside, c.requires.problem.few, get_or_default order k d 0 inside)
+
+pub overflow_sub-result : goal.overflow_sub-result
+overflow_sub-result c =
+    let small = c.requires.problem.small c.freedom.result c.freedom-2.result in
+    omega (arith, ints, c.get-stiffness.ensures.value, small, c.requires.problem.shift_low, c.requires.problem.shift_high)
+
+pub overflow_mul-result : goal.overflow_mul-result
+overflow_mul-result c =
+    let small = c.requires.problem.small c.freedom.result c.freedom-2.result in
+    omega (arith, ints, c.get-stiffness.ensures.value, small, c.requires.problem.shift_low, c.requires.problem.shift_high)
+
+pub overflow_mul-result-else-i-j : goal.overflow_mul-result-else-i-j
+overflow_mul-result-else-i-j c =
+    let small = c.requires.problem.small c.freedom.result c.freedom-2.result in
+    omega (arith, ints, c.get-stiffness.ensures.value, small)

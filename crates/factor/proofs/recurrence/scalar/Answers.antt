@@ -1,8 +1,10 @@
-use Rattle.std.proofs.Common.{◌≡◌, ℕ, ◌<◌, List, length, ◌∙◌, sym, subst, arith, Vec, Global, ℤ, to_z, of_z, All}
+use Rattle.std.proofs.Common.{◌≡◌, ℕ, ◌<◌, List, [], length, replicate, refl, ◌∙◌, sym, subst, arith, Vec, Global, ℤ, to_z, of_z, All}
 use Rattle.std.specs.Int.{w128}
 use Rattle.std.specs.Vec.{with_items}
 use Rattle.std.proofs.lemmas.Result.{err_from_is_err_and}
 use Rattle.std.proofs.lemmas.List.{with_items_is}
+use Rattle.std.proofs.lemmas.Grind.{common_steps}
+use Rattle.std.proofs.Math.ListN.{length-replicate}
 use Rattle.rising_list.specs.Rising.{IsRising}
 use Rattle.rising_list.specs.Lists.{contents, list_of}
 use Rattle.rising_list.proofs.ListsLemmas.{contents-read, length-contents}
@@ -101,3 +103,50 @@ returns c =
     let all = subst (λ (s : ℤ). P size s) shift (subst (λ (n : ℕ). P n (to_z w128 (of_z w128 c.args.shift))) end c.loop-node.invariant.0) in
     let Q : List Panel → Type 0 = λ ps. HasColumns c.args.order.now ps c.in_ok-columns.field-0 in
     factor_is a c.args.order.now c.args.parents.now c.loop-node.panels.items c.in_ok-columns.field-0 all (subst Q c.deref-2.ensures.value c.in_ok-columns.ensures)
+
+pub eliminate_node-requires-clause-problem : goal.eliminate_node-requires-clause-problem
+eliminate_node-requires-clause-problem c =
+    let order = c.args.order.now in
+    let shift : to_z w128 (of_z w128 c.args.shift) ≡ c.args.shift = shift_is c.args.shift c.requires.shift_low c.requires.shift_high in
+    rw (c.deref.ensures.value, shift)
+    (record {
+      few = c.requires.few;
+      ordered = c.requires.order;
+      nodes = c.requires.nodes;
+      small = c.requires.small;
+      shift_low = c.requires.shift_low;
+      shift_high = c.requires.shift_high;
+      parents_count = c.requires.parents_count;
+      parents_later = c.requires.parents_later;
+      inverse = c.in_ok-places.ensures;
+    })
+
+pub eliminate_node-requires-clause-panels : goal.eliminate_node-requires-clause-panels
+eliminate_node-requires-clause-panels c = rw c.deref-in-loop-node.ensures.value c.loop-node.invariant.0
+
+pub returns-in_err-places : goal.returns-in_err-places
+returns-in_err-places c =
+    let p = err_from_is_err_and c.from_residual.result c.from_residual.ensures.1 in
+    let e : p.0 ≡ NoMemory = p.2 in
+    rw p.1 (no_memory (matrix_of c.args.k.now c.args.order.now c.args.shift) c.args.order.now c.args.parents.now p.0 e)
+
+pub returns-in_err-users : goal.returns-in_err-users
+returns-in_err-users c =
+    let p = err_from_is_err_and c.from_residual-in_err-users.result c.from_residual-in_err-users.ensures.1 in
+    let e : p.0 ≡ NoMemory = p.2 in
+    rw p.1 (no_memory (matrix_of c.args.k.now c.args.order.now c.args.shift) c.args.order.now c.args.parents.now p.0 e)
+
+pub returns-in_err-panels : goal.returns-in_err-panels
+returns-in_err-panels c =
+    let p = err_from_is_err_and c.from_residual-in_err-panels.result c.from_residual-in_err-panels.ensures.1 in
+    let e : p.0 ≡ NoMemory = p.2 in
+    rw p.1 (no_memory (matrix_of c.args.k.now c.args.order.now c.args.shift) c.args.order.now c.args.parents.now p.0 e)
+
+-- no panel is there yet, and no node is listed
+listed_none : (size q : ℕ) → AreUsers [] 0 q (list_of (replicate size []) q)
+listed_none size q = grind (arith, common_steps)
+
+pub loop-node-init : goal.loop-node-init
+loop-node-init c =
+    rw (c.in_ok-panels.ensures.items, c.in_ok-users.ensures)
+    (record { count = refl; known = λ d below. absurd (omega arith) }, length-replicate (length c.args.order.now) [], λ q. listed_none (length c.args.order.now) q)

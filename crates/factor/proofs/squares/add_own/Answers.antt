@@ -1,4 +1,6 @@
-use Rattle.std.proofs.Common.{arith, inl, inr, pos}
+use Rattle.std.proofs.Common.{◌<◌, ◌^◌, arith, inl, inr, ℤ, pos}
+use Rattle.std.specs.Int.RustNames.{unsigned_abs}
+use Rattle.std.proofs.lemmas.List.Elements.{All-take, All-drop}
 use Rattle.factor.specs.Squares.{total_of}
 use Rattle.factor.proofs.SquaresLemmas.{total_is, totalled_more, reached, not_reached}
 use Rattle.factor.proofs.squares.add_own.Goals as goal
@@ -19,3 +21,9 @@ loop-row-preserved c =
       | else-row-ge6-via-then-row-ge6+else-total-ge-LIMIT w ↦ inr (not_reached _ (total_of c.args.sums.now c.args.entries.now row) is w.if-total-ge-LIMIT.false)
       | else-row-ge6-via-else-row-ge6 w ↦ inl (omega arith)
     ])
+
+pub dot-requires-clause-left_small : goal.dot-requires-clause-left_small
+dot-requires-clause-left_small c = All-take (λ (x : ℤ). unsigned_abs x < 2 ^ 57) _ _ (All-drop (λ (x : ℤ). unsigned_abs x < 2 ^ 57) _ c.args.entries.now c.requires.entries_small)
+
+pub dot-requires-clause-right_small : goal.dot-requires-clause-right_small
+dot-requires-clause-right_small c = All-take (λ (x : ℤ). unsigned_abs x < 2 ^ 57) _ _ (All-drop (λ (x : ℤ). unsigned_abs x < 2 ^ 57) _ c.args.entries.now c.requires.entries_small)
