@@ -1,5 +1,5 @@
 -- The whole matrices: what stands outside the pattern.
-use Rattle.std.proofs.Common.{◌≡◌, ◌≢◌, ℕ, zero, suc, ◌/◌, ◌<◌, ◌⊎◌, inl, inr, List, length, map, get_or, slice_index, refl, sym, subst, ap, ◌∙◌, arith, ◌≤◌, false, true, Ok, Err}
+use Rattle.std.proofs.Common.{◌≡◌, ◌≢◌, ℕ, zero, suc, ◌/◌, ◌<◌, ◌⊎◌, inl, inr, List, length, get_or, slice_index, refl, ap, ◌∙◌, arith, ◌≤◌, false, true, Ok, Err}
 use Rattle.std.specs.Prelude.{Contains, IsOk, Result, is_err, OnOk, OnErr}
 use Rattle.std.proofs.lemmas.Bool.{cases_eq}
 use Rattle.sym_blocks.specs.Matrix.{Matrix, pattern_of, HasBlock}
@@ -12,8 +12,6 @@ use Rattle.member_set.specs.declared.members.Member.{Member}
 use Rattle.member_set.specs.declared.members.Built.{Built}
 use Rattle.member_set.specs.Members.{nothing, Touches, IsBuilt, row_count, node_count, member_of, members_at}
 use Rattle.member_set.specs.Interval.{Outcome, in_turn}
-use Rattle.member_set.proofs.Touching.{numbers_in_range}
-use Rattle.int_laws.specs.Sums.{sum_below}
 use Rattle.int_laws.proofs.Sums.{int_sums}
 use Rattle.int_laws.proofs.Products.{zero-mul, mul_comm, mul_swap}
 use Rattle.int_laws.proofs.SumLaws.{sum_below-zero, sum_below-same}

@@ -1,6 +1,6 @@
 -- Blocks beside the nodes of a rising list, and their entries.
-use Rattle.std.proofs.Common.{◌≡◌, ℕ, zero, suc, ◌<◌, cond, List, [], ◌∷◌, length, get_or, set, Contains, inl, inr, ◌∙◌, sym, ap, refl, arith, eqb, ℤ, pos}
-use Rattle.std.proofs.lemmas.Bool.{cases_eq, eq-eqb, ne_eqb}
+use Rattle.std.proofs.Common.{◌≡◌, ℕ, ◌<◌, List, [], length, get_or, set, Contains, inl, inr, ◌∙◌, sym, ap, arith, ℤ, pos}
+use Rattle.std.proofs.lemmas.Bool.{cases_eq}
 use Rattle.std.proofs.lemmas.List.{get_or-set_same, get_or-set_other, get_or_past}
 use Rattle.rising_list.specs.Rising.{IsRising, place_of}
 use Rattle.rising_list.proofs.PlaceLemmas.{place_of-at, place_of-absent, at_place_of}

@@ -1,9 +1,6 @@
 -- Lists of nodes, as pairs are put in.
-use Rattle.rising_list.proofs.ListsLemmas.{contents-read}
-use Rattle.rising_list.specs.Lists.{contents, list_of}
-use Rattle.std.proofs.Common.{◌≡◌, ℕ, ◌<◌, List, [], ◌∷◌, ◌++◌, length, get_or, set, Contains, ◌⊎◌, inl, inr, ◌↔◌, ◌∙◌, sym, ap, refl, arith, subst, Vec, Global, Result, Ok, Err, OnOk}
-use Rattle.std.proofs.lemmas.Bool.{cases_eq}
-use Rattle.std.proofs.lemmas.List.{get_or-set_same, get_or-set_other, length-map, length-set, map-set}
+use Rattle.rising_list.specs.Lists.{list_of}
+use Rattle.std.proofs.Common.{◌≡◌, ℕ, List, [], ◌∷◌, ◌++◌, get_or, Contains, inl, inr, ◌↔◌, ◌∙◌, sym, ap, refl, arith, subst}
 use Rattle.std.proofs.lemmas.List.Elements.{Contains-append_left, Contains-append_right, Contains-append_cases}
 use Rattle.rising_list.specs.Rising.{IsRising}
 use Rattle.sym_blocks.specs.Storage.{LinksLists}

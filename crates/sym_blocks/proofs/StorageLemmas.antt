@@ -1,10 +1,10 @@
 -- What is stored, read as a whole matrix, and a write to it.
-use Rattle.rising_list.specs.Lists.{contents, list_of}
-use Rattle.std.proofs.Common.{◌≡◌, ℕ, ◌*◌, ◌/◌, ◌%◌, ◌^◌, ◌<◌, ◌≤◌, List, [], length, get_or, set, map, Contains, ◌⊎◌, inl, inr, ◌∙◌, sym, ap, arith, subst, ℤ, pos, Vec, Global}
+use Rattle.rising_list.specs.Lists.{list_of}
+use Rattle.std.proofs.Common.{◌≡◌, ℕ, ◌*◌, ◌/◌, ◌%◌, ◌^◌, ◌<◌, ◌≤◌, List, [], length, get_or, set, map, Contains, ◌⊎◌, inl, inr, ◌∙◌, sym, ap, arith, subst, ℤ, pos}
 use Rattle.std.specs.List.{range_with_len}
 use Rattle.std.specs.Int.RustNames.{unsigned_abs}
 use Rattle.std.proofs.lemmas.Bool.{cases_lt, cases_eq}
-use Rattle.std.proofs.lemmas.List.{get_or-set_same, get_or-set_other, get_or_past, get_or_default, get_or-map, length-map, length-set}
+use Rattle.std.proofs.lemmas.List.{get_or-set_same, get_or-set_other, get_or_past, get_or_default, length-set}
 use Rattle.std.proofs.lemmas.List.FromFn.{get_or-map-range_with_len, length-map-range_with_len}
 use Rattle.sym_blocks.specs.Matrix.{entry, IsSymmetricByBlocks}
 use Rattle.sym_blocks.specs.Storage.{Block, block_beside, at_place, stored, matrix_of, IsLayout, IsStorage, IsWhole}

@@ -1,5 +1,5 @@
 -- How a matrix by blocks is stored: beside each node's list of nodes a list of as many blocks.
-use Rattle.std.specs.Prelude.{◌≡◌, ℕ, ◌*◌, ◌/◌, ◌%◌, ◌^◌, ◌<◌, ◌==◌, List, [], ◌∷◌, length, map, replicate, slice_index_or, Contains, if◌then◌else◌, ◌↔◌, ◌⊎◌, ℤ, pos, ◌+ℤ◌}
+use Rattle.std.specs.Prelude.{◌≡◌, ℕ, ◌*◌, ◌/◌, ◌%◌, ◌^◌, ◌<◌, List, [], ◌∷◌, length, map, replicate, slice_index_or, Contains, ◌↔◌, ◌⊎◌, ℤ, pos, ◌+ℤ◌}
 use Rattle.std.specs.List.{range_with_len}
 use Rattle.std.specs.Int.RustNames.{unsigned_abs}
 use Rattle.rising_list.specs.Rising.{IsRising, place_of}

@@ -1,9 +1,7 @@
-use Rattle.std.proofs.Common.{◌≡◌, List, ℕ, ◌+◌, ◌/◌, ◌<◌, length, get_or, slice_index, ap, arith, sym, ◌∙◌, refl, ℤ, pos, ◌*ℤ◌, add-one}
+use Rattle.std.proofs.Common.{◌≡◌, List, ℕ, ◌/◌, ◌<◌, length, get_or, slice_index, ap, arith, sym, refl, pos, ◌*ℤ◌, add-one}
 use Rattle.std.proofs.lemmas.Result.{err_from_is_err_and}
 use Rattle.std.proofs.lemmas.List.{get_or_read_under}
-use Rattle.flex_interval.specs.Fraction.{Within, whole}
 use Rattle.member_set.specs.Members.{nothing, no_member, member_of, members_at, shape_at}
-use Rattle.member_set.specs.Realisation.{IsMemberWithin}
 use Rattle.member_set.proofs.Rows.{nothing_is_zero}
 use Rattle.member_set.proofs.Touching.{resistance_by_node}
 use Rattle.assembly.proofs.Fractions.{nothing_within}

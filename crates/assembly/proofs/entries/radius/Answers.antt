@@ -1,4 +1,4 @@
-use Rattle.std.proofs.Common.{◌≡◌, sym, subst, arith, rules, FitsSigned, to_z-of_z, ℤ, pos, ◌+ℤ◌, ◌-ℤ◌, ◌*ℤ◌, ◌≤ℤ◌}
+use Rattle.std.proofs.Common.{◌≡◌, ap, sym, arith, rules, FitsSigned, to_z-of_z, ℤ, pos, ◌+ℤ◌, ◌-ℤ◌, ◌*ℤ◌, ◌≤ℤ◌}
 use Rattle.std.specs.Int.{w128}
 use Rattle.std.proofs.lemmas.Int.{ints}
 use Rattle.int_laws.proofs.Sums.{int_sums}
@@ -20,3 +20,11 @@ returns-clause-not_negative c =
     let middle_fits : FitsSigned w128 c.middle.result = search rules in
     let fits : FitsSigned w128 (c.e.inside.hi -ℤ c.middle.result) = search rules in
     rw (to_z-of_z hi_fits, to_z-of_z middle_fits, to_z-of_z fits) above
+
+pub overflow_sub-result : goal.overflow_sub-result
+overflow_sub-result c = omega (arith, ints, c.e.invariant, c.middle.ensures.small)
+
+pub returns-clause-value : goal.returns-clause-value
+returns-clause-value c =
+    let hi = ap (λ (x : Ends). x.hi) c.e.view_is in
+    omega (arith, ints, hi, c.middle.ensures.value, c.e.invariant, c.middle.ensures.small)

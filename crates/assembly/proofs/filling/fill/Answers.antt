@@ -1,4 +1,4 @@
-use Rattle.std.proofs.Common.{◌≡◌, ◌/◌, sym, FitsSigned, to_z-of_z, rules}
+use Rattle.std.proofs.Common.{◌/◌, sym, FitsSigned, to_z-of_z, rules}
 use Rattle.std.specs.Int.{w128}
 use Rattle.assembly.specs.Filling.{PutsAt}
 use Rattle.assembly.proofs.Kept.{filled_from, keeps_from}

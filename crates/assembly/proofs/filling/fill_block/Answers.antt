@@ -1,4 +1,4 @@
-use Rattle.std.proofs.Common.{◌≡◌, ℕ, ◌+◌, ◌*◌, ◌<◌, ◌≤◌, ◌⊎◌, inl, inr, arith}
+use Rattle.std.proofs.Common.{◌≡◌, ◌+◌, ◌*◌, ◌<◌, ◌⊎◌, inl, inr, arith}
 use Rattle.assembly.proofs.Kept.{pattern_kept, keeps_more}
 use Rattle.assembly.proofs.filling.fill_block.Goals as goal
 use Rattle.assembly.proofs.filling.fill_block.Goals.{then-row-col+in_ok-fill, else-row-col}

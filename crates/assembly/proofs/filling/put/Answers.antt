@@ -1,4 +1,4 @@
-use Rattle.std.proofs.Common.{◌≡◌, ◌∙◌, arith, pos, ◌+ℤ◌, ◌-ℤ◌}
+use Rattle.std.proofs.Common.{arith}
 use Rattle.int_laws.proofs.Sums.{int_sums}
 use Rattle.assembly.proofs.filling.put.Goals as goal
 

@@ -1,7 +1,4 @@
-use Rattle.std.proofs.Common.{◌≡◌, ℕ, ◌<◌, ◌⊎◌, inl, inr, ◌∙◌, sym, ap, arith, List, length, slice_index_or, []}
-use Rattle.std.specs.Prelude.{Contains}
-use Rattle.member_set.specs.Members.{row_count}
-use Rattle.sym_blocks.specs.Matrix.{HasBlock}
+use Rattle.std.proofs.Common.{◌≡◌, ℕ, ◌<◌, ◌⊎◌, inl, inr, ◌∙◌, sym, ap, arith, List, length}
 use Rattle.assembly.proofs.Patterns.{pairs_in_range, pattern_of_pairs}
 use Rattle.assembly.proofs.Kept.{pattern_kept}
 use Rattle.assembly.proofs.Whole.{assembled, all_near, all_not_negative, first_wide, on_ok, on_err}
