@@ -63,3 +63,19 @@ returns-clause-widened c = record {
   wider = λ k inside. rw (to_z-of_z c.ranges.lambda, to_z-of_z c.ranges.size) at c.loop-k.invariant.wider k (omega (arith, c.loop-k.invariant.one_each));
   steady = λ k inside. rw (to_z-of_z c.ranges.lambda, to_z-of_z c.ranges.size) at c.loop-k.invariant.steady k (omega (arith, c.loop-k.invariant.one_each));
 }
+
+pub widened-requires-clause-lower : goal.widened-requires-clause-lower
+widened-requires-clause-lower c =
+    let k = c.loop-k.k in
+    let inside : k < length c.args.b.now.members = omega (arith, c.loop-k.invariant.one_each) in
+    let force = get_or_read_under c.loop-k.forces k (length c.args.b.now.members) c.index-forces-k.result nothing c.index-forces-k.is inside (sym c.loop-k.invariant.one_each) in
+    let was = c.loop-k.invariant.rest k (omega arith) in
+    rw (force ∙ was) (c.requires.limited k c.loop-k-test.true).lower
+
+pub widened-requires-clause-upper : goal.widened-requires-clause-upper
+widened-requires-clause-upper c =
+    let k = c.loop-k.k in
+    let inside : k < length c.args.b.now.members = omega (arith, c.loop-k.invariant.one_each) in
+    let force = get_or_read_under c.loop-k.forces k (length c.args.b.now.members) c.index-forces-k.result nothing c.index-forces-k.is inside (sym c.loop-k.invariant.one_each) in
+    let was = c.loop-k.invariant.rest k (omega arith) in
+    rw (force ∙ was) (c.requires.limited k c.loop-k-test.true).upper
