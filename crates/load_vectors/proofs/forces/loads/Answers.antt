@@ -3,7 +3,7 @@ use Rattle.std.proofs.lemmas.Result.{err_from_is_err_and}
 use Rattle.model_types.specs.declared.records.Force.{Force}
 use Rattle.load_vectors.specs.declared.fault.LoadFault.TheVariants as faults
 use Rattle.load_vectors.specs.Totals.{AreTotals}
-use Rattle.load_vectors.proofs.TotalLemmas.{are_loads, first_wide_load, same_fault}
+use Rattle.load_vectors.proofs.TotalLemmas.{are_loads, enclose_loads, first_wide_load, same_fault}
 use Rattle.load_vectors.proofs.forces.loads.Goals as goal
 
 pub returns-in_err-test_limit-clause-wide : goal.returns-in_err-test_limit-clause-wide
@@ -20,3 +20,8 @@ returns-clause-loads c =
     let done : c.loop-t.t ≡ length c.args.m.now.forces = omega (arith, ap (λ (fs : List Force). length fs) c.forces-t-end.ensures.records) in
     let totals = subst (λ (n : ℕ). AreTotals c.args.m.now c.args.case.0 n c.loop-t.loads.items) done c.loop-t.invariant in
     are_loads c.args.m.now c.args.case.0 c.loop-t.loads.items totals (rw c.deref.ensures.value at c.in_ok-test_limit.ensures.limited)
+
+pub returns-clause-within : goal.returns-clause-within
+returns-clause-within c =
+    let done : c.loop-t.t ≡ length c.args.m.now.forces = omega (arith, ap (λ (fs : List Force). length fs) c.forces-t-end.ensures.records) in
+    enclose_loads c.args.m.now c.args.case.0 c.loop-t.loads.items (subst (λ (n : ℕ). AreTotals c.args.m.now c.args.case.0 n c.loop-t.loads.items) done c.loop-t.invariant)
