@@ -1,0 +1,23 @@
+use Rattle.std.proofs.Common.{◌≡◌, ℕ, ◌+◌, List, ◌∷◌, ◌++◌, get_or, drop, add-one, ap, ◌∙◌, pos, to_z, of_z}
+use Rattle.std.proofs.Math.Seq.{drop-cons}
+use Rattle.std.proofs.lemmas.List.Concat.{flat_map-append}
+use Rattle.std.specs.Int.{w128}
+use Rattle.std.specs.List.{flat_map}
+use Rattle.model_types.specs.declared.answers.Bounds.{Bounds}
+use Rattle.report.specs.Report.{pair}
+use Rattle.report.specs.Words.{spaced}
+use Rattle.report.proofs.LineLemmas.{written}
+use Rattle.report.proofs.rows.push_pairs.Goals as goal
+
+pub loop-pair-preserved : goal.loop-pair-preserved
+loop-pair-preserved c =
+    let n = to_z w128 (of_z w128 c.args.n) in
+    let m = to_z w128 (of_z w128 c.args.m) in
+    let bounds = c.args.bounds.now in
+    let i = c.loop-pair.pair-index in
+    let zero : Bounds = record { lo = pos 0; hi = pos 0 } in
+    let b = get_or bounds i zero in
+    let next : drop i bounds ≡ b ∷ drop (i + 1) bounds = rw add-one (drop-cons bounds i zero c.loop-pair-test.true) in
+    let left = flat_map (pair n m) (drop (i + 1) bounds) in
+    written (c.args.out.now.items ++ spaced (flat_map (pair n m) bounds)) c.loop-pair.out.items c.push_pair.new.out.items (spaced (pair n m b)) (spaced (flat_map (pair n m) (drop i bounds))) (spaced left)
+    (ap (λ (bs : List Bounds). spaced (flat_map (pair n m) bs)) next ∙ flat_map-append (λ (word : List ℕ). 32 ∷ word) (pair n m b) left) c.loop-pair.invariant c.in_ok-push_pair.ensures
