@@ -5,14 +5,14 @@ use Rattle.int_laws.proofs.Sums.{int_sums}
 use Rattle.flex_interval.specs.Ends.{Ends}
 use Rattle.member_set.specs.declared.members.Law.{Law}
 use Rattle.member_set.specs.declared.members.Built.{Built}
-use Rattle.member_set.specs.Members.{nothing, force_of, row_count}
+use Rattle.member_set.specs.Members.{nothing, row_count}
 use Rattle.member_set.specs.Interval.{residual_of}
 use Rattle.model_types.specs.Lists.{Lists}
 use Rattle.model_types.specs.declared.answers.Bounds.{Bounds}
 use Rattle.model_types.specs.declared.answers.Cause.{Cause}
 use Rattle.model_types.specs.declared.answers.CaseAnswer.{CaseAnswer}
 use Rattle.model_types.specs.declared.answers.CaseAnswer.TheVariants.{Certified, Uncertified}
-use Rattle.sym_blocks.specs.Matrix.{Matrix, node_count, entry}
+use Rattle.sym_blocks.specs.Matrix.{Matrix, entry}
 use Rattle.assembly.specs.Stiffness.{AreAssembled}
 use Rattle.factor_data.specs.Columns.{Columns}
 use Rattle.factor_data.specs.Order.{IsOrder}
@@ -21,8 +21,8 @@ use Rattle.certificate.specs.declared.bounds.Enclosure.{Enclosure}
 use Rattle.certificate.specs.Bounds.{sum_of_squares, displacement_radius, force_radius, HasBounds, AreBounds, HasNoBounds, no_residual, long, far, unsteady}
 use Rattle.structure.specs.Structure.{IsStructureOf}
 use Rattle.load_vectors.specs.Loads.{AreLoads}
-use Rattle.case_run.specs.Causes.{Plan, resting_laws, IsFactorAt, IsMatrixCause, IsBreakdownCause, refinement}
-use Rattle.case_run.specs.Certified.{bounds_of, element_member_count, HasNoMargin, IsCertifiable, IsModelCause, no_structure, no_matrices, no_margin, HasCandidate, IsEnclosureOf, residual, IsOwnCause, no_loads, no_unshifted_factor, no_candidate, no_bounds, IsCertified, IsUncertified, by_model, by_case, IsCaseAnswer, AreCaseAnswers}
+use Rattle.case_run.specs.Causes.{Plan, resting_laws, IsFactorAt, IsMatrixCause, refinement}
+use Rattle.case_run.specs.Certified.{bounds_of, element_member_count, IsCertifiable, IsModelCause, no_structure, no_matrices, no_margin, HasCandidate, IsEnclosureOf, residual, IsOwnCause, no_loads, no_unshifted_factor, no_candidate, no_bounds, IsCertified, IsUncertified, by_model, by_case, IsCaseAnswer}
 use Rattle.case_run.specs.Determined.{AnswersAreDetermined}
 use Rattle.case_run.proofs.SameSolutions.{AreAlike, AreAlikeFactors, lead-same, candidate-excludes}
 use Rattle.case_run.proofs.SameStructures.{structure-one, element-excludes, element-one, middles-alike, radii-alike, not_both, matrix-excludes, matrix_cause-one, loads-one, load-excludes, load_cause-one}

@@ -3,7 +3,6 @@ use Rattle.std.specs.Prelude.{if◌then◌else◌, nat_eq, nat_lt, int_lt}
 use Rattle.std.proofs.Common.{◌≡◌, ℕ, zero, suc, ◌+◌, ◌*◌, ◌/◌, ◌^◌, ◌<◌, ◌≤◌, ◌⊎◌, inl, inr, refl, sym, ◌∙◌, ap, ap₂, subst, arith, List, length, Option, slice_index, unsigned_abs, ℤ, pos, ◌+ℤ◌, ◌-ℤ◌, ◌*ℤ◌, ◌≤ℤ◌, ◌<ℤ◌}
 use Rattle.std.proofs.lemmas.Bool.{cases_lt}
 use Rattle.std.proofs.lemmas.Int.{ints}
-use Rattle.int_laws.specs.Sums.{sum_below}
 use Rattle.int_laws.proofs.SumLaws.{sum_below-same}
 use Rattle.flex_num.specs.Division.{nearest_of}
 use Rattle.flex_num.specs.Root.{root_of}
@@ -12,7 +11,7 @@ use Rattle.model_types.specs.declared.answers.Cause.TheVariants as causes
 use Rattle.sym_blocks.specs.Matrix.{Matrix}
 use Rattle.cholesky_laws.specs.Recurrence.{products, remainder, next_column, columns_below, cholesky, left_after, pivot}
 use Rattle.cholesky_laws.specs.Elimination.{is_in_subtree}
-use Rattle.cholesky_laws.specs.Breakdown.{squares, Passes, BreaksAtPivot, BreaksWide, PassesWhole, HasLargeEntry, HasWideRow}
+use Rattle.cholesky_laws.specs.Breakdown.{squares, Passes, BreaksAtPivot, BreaksWide, HasLargeEntry, HasWideRow}
 use Rattle.factor.specs.State.{matrix_of}
 use Rattle.factor.specs.Scalar.{IsFactorOf, IsBreakdown}
 use Rattle.factor.specs.declared.fault.ScalarFault.{ScalarFault}

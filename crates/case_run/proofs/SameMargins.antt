@@ -1,5 +1,5 @@
 -- Matrices with the same entries have the same margin, or the same cause why there is none.
-use Rattle.std.proofs.Common.{◌≡◌, ℕ, ◌+◌, ◌*◌, ◌<◌, ◌≤◌, inl, inr, refl, sym, ◌∙◌, ap, subst, arith, List, length, ℤ, pos}
+use Rattle.std.proofs.Common.{◌≡◌, ℕ, ◌*◌, ◌≤◌, inl, inr, sym, ap, subst, arith, List, length, ℤ}
 use Rattle.std.proofs.lemmas.Bool.{cases_lt}
 use Rattle.model_types.specs.declared.answers.Cause.{Cause}
 use Rattle.sym_blocks.specs.Matrix.{Matrix, node_count, entry}

@@ -1,5 +1,5 @@
 -- What is solved by factors with the same entries is the same, step by step of the refinement.
-use Rattle.std.proofs.Common.{◌≡◌, ℕ, zero, suc, ◌+◌, ◌-◌, ◌*◌, ◌^◌, ◌<◌, ◌≤◌, ◌⊎◌, inl, inr, refl, sym, ◌∙◌, ap, ap₂, subst, arith, List, length, ext_get_or, pow_pos, unsigned_abs, Result, Ok, Err, IsErr, All, ℤ, pos, ◌+ℤ◌, ◌-ℤ◌, ◌*ℤ◌, ◌≤ℤ◌, ◌<ℤ◌}
+use Rattle.std.proofs.Common.{◌≡◌, ℕ, zero, suc, ◌+◌, ◌-◌, ◌*◌, ◌^◌, ◌<◌, ◌≤◌, inl, inr, sym, ◌∙◌, ap, ap₂, subst, arith, List, length, ext_get_or, pow_pos, unsigned_abs, Result, Ok, Err, IsErr, All, ℤ, pos, ◌+ℤ◌, ◌-ℤ◌, ◌*ℤ◌, ◌≤ℤ◌, ◌<ℤ◌}
 use Rattle.std.proofs.Math.Nat.{mul-le-mul_left}
 use Rattle.std.proofs.lemmas.Bool.{cases_lt}
 use Rattle.std.proofs.lemmas.List.Elements.{All-get_or}
@@ -18,7 +18,7 @@ use Rattle.factor_data.specs.Order.{IsOrder, freedom_at, position_of}
 use Rattle.factor_data.proofs.OrderLemmas.{position-below, row-of_position, row-below}
 use Rattle.solve.specs.Substitution.{Matrix, Vector, at, absolute, IsForwardBelow, IsForward, ForwardBreaks, forward_size, IsBackwardFrom, IsBackward, BackwardBreaks}
 use Rattle.solve.specs.Numerators.{past}
-use Rattle.solve.specs.Refinement.{middle_of, AreMiddles, HasNoResidual, HasRoom, IsScale, HasNoRoom, forward_side, backward_side, IsMoved, MovesTooFar, problem, IsTurn, TurnBreaks, no_residual, no_room, forward_broad, backward_broad, too_far, LeadTo, IsTooWide}
+use Rattle.solve.specs.Refinement.{middle_of, AreMiddles, HasNoResidual, IsScale, HasNoRoom, forward_side, backward_side, IsMoved, MovesTooFar, problem, IsTurn, TurnBreaks, no_residual, no_room, forward_broad, backward_broad, too_far, LeadTo, IsTooWide}
 use Rattle.solve.proofs.ColumnsTaken.{past-before}
 
 -- the same entries in the first n rows and columns

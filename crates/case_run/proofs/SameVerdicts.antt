@@ -1,6 +1,6 @@
 -- Tests with the same numbers have the same verdict.
 use Rattle.std.specs.Int.{int_div_euclid}
-use Rattle.std.proofs.Common.{◌≡◌, ℕ, ◌*◌, ◌^◌, ◌<◌, ◌≤◌, ◌⊎◌, inl, inr, refl, sym, ◌∙◌, ap, ap₂, subst, arith, length, List, ℤ, pos, ◌-ℤ◌, ◌*ℤ◌, ◌≤ℤ◌, ◌<ℤ◌}
+use Rattle.std.proofs.Common.{◌≡◌, ℕ, ◌*◌, ◌^◌, ◌<◌, inl, inr, refl, sym, ◌∙◌, ap, ap₂, subst, arith, length, List, ℤ, pos, ◌-ℤ◌, ◌*ℤ◌, ◌≤ℤ◌, ◌<ℤ◌}
 use Rattle.std.proofs.lemmas.Bool.{cases_lt}
 use Rattle.int_laws.specs.Sums.{sum_below}
 use Rattle.int_laws.proofs.Sums.{int_sums}

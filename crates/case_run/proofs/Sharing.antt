@@ -1,10 +1,12 @@
 -- What all cases share: the factor's shape, and that the structures and loads of a model have the same realisations.
 use Rattle.std.proofs.Common.{◌≡◌, ℕ, ◌*◌, ◌<◌, ap, ◌∙◌, sym, arith, List, Result, Ok, Err, length}
+use Rattle.std.proofs.Math.ListN.{length-replicate}
 use Rattle.std.specs.Prelude.{IfOk, MatchResult, ℤ}
 use Rattle.flex_interval.specs.Ends.{Ends}
 use Rattle.member_set.specs.declared.members.Built.{Built}
+use Rattle.member_set.specs.declared.members.Law.{Law}
 use Rattle.member_set.specs.declared.members.Member.{Member}
-use Rattle.member_set.specs.Members.{node_count as nodes_of, load_of}
+use Rattle.member_set.specs.Members.{FitsBuilt, node_count as nodes_of, load_of}
 use Rattle.member_set.specs.Realisation.{Realisation, IsRealisation}
 use Rattle.model_types.specs.Lists.{Lists}
 use Rattle.model_types.specs.declared.answers.Cause.{Cause}
@@ -20,6 +22,15 @@ pub factor_for : (b : Built) (p : Plan) (middles : Matrix) (shift : ℤ) (Q : Ca
 factor_for b p middles shift Q (Ok f) nodes factor diagonal =
     record { nodes_are = ap (λ (xs : List ℕ). length xs) factor.order_is ∙ nodes; diagonal = diagonal }
 factor_for b p middles shift Q (Err cause) nodes factor diagonal = diagonal
+
+-- a law for each member and a load for each row
+pub fits_structure : (m : Lists) (case : ℕ) (b : Built) (laws : List Law) (loads : List Ends) →
+    IsStructureOf m b → laws ≡ resting_laws b → AreLoads m case loads → FitsBuilt b laws loads
+fits_structure m case b laws loads structure resting loaded =
+    record {
+      one_law_each = ap (λ (ls : List Law). length ls) resting ∙ length-replicate (length b.members) _;
+      one_load_each = loaded.one_each ∙ ap (λ n. 6 * n) (sym structure.nodes);
+    }
 
 same_load : (m : Lists) (case : ℕ) (loads others : List Ends) (row : ℕ) → AreLoads m case loads → AreLoads m case others →
     row < 6 * length m.nodes → load_of others row ≡ load_of loads row

@@ -1,5 +1,9 @@
-use Rattle.std.proofs.Common.{below_more, to_z-of_z, rules, FitsSigned}
+use Rattle.std.proofs.Common.{◌≡◌, below_more, subst, to_z-of_z, arith, rules, FitsSigned}
 use Rattle.std.specs.Int.{w128}
+use Rattle.std.proofs.lemmas.Result.{IfOk-weaker, IfErr-weaker}
+use Rattle.case_run.specs.Causes.{plan}
+use Rattle.case_run.specs.Certified.{FailBefore, last_place}
+use Rattle.case_run.proofs.Faults.{names_also}
 use Rattle.case_run.proofs.margin.margin_of.Goals as goal
 
 pub loop-place-preserved : goal.loop-place-preserved
@@ -7,3 +11,36 @@ loop-place-preserved c =
     let fits : FitsSigned w128 c.shift_of.result = search rules in
     let fails = rw (c.in-Err-Because.field-0-is, to_z-of_z fits, c.shift_of.ensures.value) at c.in-Err-Because.ensures.fails in
     below_more _ _ c.loop-place.invariant (c.in-Err-Because.field-0-0, fails)
+
+pub returns-in-Ok-clause-margin : goal.returns-in-Ok-clause-margin
+returns-in-Ok-clause-margin c =
+    let fits : FitsSigned w128 c.shift_of.result = search rules in
+    let lambda_fits : FitsSigned w128 c.in-Ok.lambda = search rules in
+    let passes = rw (to_z-of_z fits, c.shift_of.ensures.value) at c.in-Ok.ensures.passes in
+    rw (to_z-of_z lambda_fits) (record { place = c.loop-place.place; in_range = omega arith; before = c.loop-place.invariant; passes = passes })
+
+pub returns-in-Ok-clause-definite : goal.returns-in-Ok-clause-definite
+returns-in-Ok-clause-definite c =
+    let lambda_fits : FitsSigned w128 c.in-Ok.lambda = search rules in
+    rw (to_z-of_z lambda_fits) c.in-Ok.ensures.definite
+
+pub returns-clause-margin : goal.returns-clause-margin
+returns-clause-margin c =
+    let fits : FitsSigned w128 c.shift_of-2.result = search rules in
+    let at_end : c.loop-place.place ≡ last_place = omega arith in
+    let before = subst (FailBefore (plan c.args.order.now c.args.parents.now) c.args.middles.now c.args.radii.now) at_end c.loop-place.invariant in
+    IfOk-weaker c.margin_at-2.result _ _
+    (λ lambda passes. record { place = last_place; in_range = omega arith; before = before; passes = passes })
+    (rw (to_z-of_z fits, c.shift_of-2.ensures.value) at c.margin_at-2.ensures.passes)
+
+pub returns-clause-definite : goal.returns-clause-definite
+returns-clause-definite c = c.margin_at-2.ensures.definite
+
+pub returns-clause-cause : goal.returns-clause-cause
+returns-clause-cause c =
+    let fits : FitsSigned w128 c.shift_of-2.result = search rules in
+    let at_end : c.loop-place.place ≡ last_place = omega arith in
+    let before = subst (FailBefore (plan c.args.order.now c.args.parents.now) c.args.middles.now c.args.radii.now) at_end c.loop-place.invariant in
+    IfErr-weaker c.margin_at-2.result _ _
+    (λ fault fails. names_also _ _ fault (λ cause is. record { before = before; fails = is }) fails)
+    (rw (to_z-of_z fits, c.shift_of-2.ensures.value) at c.margin_at-2.ensures.fails)
