@@ -1,5 +1,6 @@
-use Rattle.std.proofs.Common.{◌++◌, ap, subst, ◌∙◌}
+use Rattle.std.proofs.Common.{◌++◌, ap, subst, ◌∙◌, take_all}
 use Rattle.std.proofs.lemmas.List.Elements.{All-more}
+use Rattle.std.specs.List.{All, flat_map}
 use Rattle.structure.specs.Enclosure.{EnclosesElement}
 use Rattle.pipeflex_top.specs.MemberTable.{element_text}
 use Rattle.pipeflex_top.proofs.TableLemmas.{flat_map-taken}
@@ -18,3 +19,13 @@ loop-element-preserved c =
       written = here.bytes ∙ ap (λ bytes. bytes ++ element_text model element) so_far.written ∙ flat_map-taken (element_text model) c.args.out.now.items elements i element inside c.element-item.is;
       enclosed = All-more (EnclosesElement model) elements i element inside so_far.enclosed (subst (EnclosesElement model) c.element-item.is here.encloses);
     }
+
+pub returns-clause-bytes : goal.returns-clause-bytes
+returns-clause-bytes c =
+    let whole = take_all c.loop-element.element-index c.elements-elements.result.now c.loop-element-test.false ∙ c.elements-elements.ensures.records in
+    c.loop-element.invariant.written ∙ ap (λ elements. c.args.out.now.items ++ flat_map (element_text c.args.model.now) elements) whole
+
+pub returns-clause-encloses : goal.returns-clause-encloses
+returns-clause-encloses c =
+    let whole = take_all c.loop-element.element-index c.elements-elements.result.now c.loop-element-test.false ∙ c.elements-elements.ensures.records in
+    subst (All (EnclosesElement c.args.model.now)) whole c.loop-element.invariant.enclosed
