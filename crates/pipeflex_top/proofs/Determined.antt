@@ -1,13 +1,11 @@
 -- A model has at most one report.
-use Rattle.std.proofs.Common.{◌≡◌, List, ℕ, refl, sym, ap, subst, ◌∙◌}
-use Rattle.std.specs.List.{All}
+use Rattle.std.proofs.Common.{◌≡◌, List, refl, sym, ap, subst, ◌∙◌}
 use Rattle.case_run.specs.Determined.{AnswersAreDetermined}
 use Rattle.flex_io.specs.declared.outcome.Status.{Status}
 use Rattle.flex_io.specs.declared.outcome.Status.TheVariants.{Done, Uncertified, Refused, Usage, ReadFault, WriteFault, NoMemory}
-use Rattle.model_types.specs.Lists.{Lists}
 use Rattle.model_types.specs.declared.answers.CaseAnswer.{CaseAnswer}
 use Rattle.report.specs.Report.{report_of}
-use Rattle.pipeflex_top.specs.Analysis.{EndsWith, IsCertified, IsReport, ReportIsDetermined, text_order}
+use Rattle.pipeflex_top.specs.Analysis.{EndsWith, ReportIsDetermined, text_order}
 use Rattle.pipeflex_top.proofs.Outcomes.{IsOrder-text}
 
 -- the same answers have one ending

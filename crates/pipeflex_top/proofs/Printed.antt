@@ -1,5 +1,5 @@
 -- What lies within the bounds of a case lies within its printed bounds.
-use Rattle.std.proofs.Common.{◌≡◌, ℕ, ◌+◌, ◌^◌, List, pos, ◌≤ℤ◌, ◌<ℤ◌, arith}
+use Rattle.std.proofs.Common.{ℕ, ◌+◌, ◌^◌, List, pos, arith}
 use Rattle.case_run.specs.Certified.{element_member_count}
 use Rattle.case_run.specs.Equilibria.{AreWithin, HoldsAlways, HoldAlways}
 use Rattle.member_set.specs.Realisation.{Vector, Realisation, force_in, fraction, force_fraction}

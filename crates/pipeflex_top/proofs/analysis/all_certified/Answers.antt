@@ -1,4 +1,4 @@
-use Rattle.std.proofs.Common.{length, subst, sym, arith, refl, take_all}
+use Rattle.std.proofs.Common.{subst, refl, take_all}
 use Rattle.std.proofs.lemmas.List.Elements.{All-more}
 use Rattle.std.specs.List.{All}
 use Rattle.pipeflex_top.specs.Analysis.{IsCertified}

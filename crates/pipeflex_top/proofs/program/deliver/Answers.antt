@@ -2,7 +2,6 @@ use Rattle.std.proofs.Common.{◌≡◌, ℕ, List, [], length, Option, Result, 
 use Rattle.std.proofs.KnownBytes.{Appends-nil}
 use Rattle.std.specs.Io.KnownBytes.{Appends}
 use Rattle.flex_io.specs.Sink.{AppendsPrefix, HasRoom, WritesAll, WritesPart}
-use Rattle.pipeflex_top.specs.Run.{message_bytes}
 use Rattle.pipeflex_top.proofs.program.deliver.Goals as goal
 
 module _ {K T E : Type 0} (held : K → Option (List ℕ)) (before after : K) (bytes : List ℕ) where
