@@ -4,7 +4,7 @@ use model_types::Cause;
 use std::alloc::AllocError;
 
 /// Why a case goes no further.
-#[derive(Clone, Copy, Debug)]
+#[derive(Clone, Copy)]
 pub(crate) enum CaseFault {
     /// It has no certificate, for this cause.
     Because(Cause),
