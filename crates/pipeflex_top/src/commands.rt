@@ -6,7 +6,7 @@ ghost use Rattle.pipeflex_top.specs.Run.{Ask, Asks};
 use text_words::number;
 
 /// What is to be made of the model whose text is read.
-#[derive(Clone, Copy, Debug, PartialEq, Eq)]
+#[derive(Clone, Copy)]
 pub enum Command {
     /// Its member table.
     Members,
