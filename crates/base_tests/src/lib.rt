@@ -2,4 +2,12 @@
 #![tactic(auto)]
 
 #[cfg(test)]
+mod fields;
+#[cfg(test)]
+mod intervals;
+#[cfg(test)]
+mod lists;
+#[cfg(test)]
 mod numbers;
+#[cfg(test)]
+mod streams;

@@ -10,6 +10,3 @@ mod steps;
 
 pub use cases::answers;
 pub use laws::answers_are_determined;
-
-#[cfg(test)]
-mod tests;

@@ -14,9 +14,6 @@ use flex_interval::{Iv, Wide, point};
 use member_set::{Built, Law, Sequence, member_forces, residual_from};
 use std::alloc::Global;
 
-#[cfg(test)]
-mod tests;
-
 /// Bounds of every equilibrium of a structure under loads.
 #[derive(Drop)]
 pub struct Enclosure {

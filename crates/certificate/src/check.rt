@@ -174,6 +174,3 @@ pub fn check_definite(
     let rows = 6 * g.order().len();
     check_rows(km, rd, g, mu as u64, rows, space)
 }
-
-#[cfg(test)]
-mod tests;

@@ -13,4 +13,3 @@ pub mod ListLemmas
 pub mod NodeLemmas
 pub mod ColumnLemmas
 pub mod StepLemmas
-pub mod TestLemmas

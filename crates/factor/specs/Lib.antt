@@ -3,8 +3,6 @@ pub mod State
 pub mod Squares
 pub mod Columns
 pub mod Scalar
-pub mod SmallNode
-pub mod SmallChain
 pub mod Front
 pub mod Gather
 pub mod Eliminate

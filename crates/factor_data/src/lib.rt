@@ -4,9 +4,6 @@
 ghost use Rattle.std.specs.Prelude.{◌≡◌, IfOk};
 ghost use Rattle.factor_data.specs.Columns.{contents};
 
-#[cfg(test)]
-mod tests;
-
 use rising_list::find_rising;
 use std::alloc::{AllocError, Global};
 use std::marker::Model;

@@ -19,6 +19,3 @@ pub use transfer::{TakeFault, put_all, take_all};
 
 /// Memory ran out.
 pub type NoMemory = AllocError;
-
-#[cfg(test)]
-mod tests;

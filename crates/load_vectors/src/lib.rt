@@ -3,8 +3,6 @@
 
 mod fault;
 mod forces;
-#[cfg(test)]
-mod tests;
 
 pub use fault::LoadFault;
 pub use forces::loads;

@@ -4,8 +4,6 @@
 mod fields;
 mod reader;
 mod records;
-#[cfg(test)]
-mod tests;
 mod words;
 mod writer;
 

@@ -11,8 +11,6 @@ pub mod ids;
 pub mod models;
 pub mod records;
 mod tables;
-#[cfg(test)]
-mod tests;
 
 pub use answers::{Bounds, CaseAnswer, Cause, CheckAnswer, StationAnswer, Values};
 pub use drafts::Draft;

@@ -75,6 +75,3 @@ fn push_kappa(out: &mut Vec<u8>, j: u8, kappa: Iv) -> Result<(), NoMemory>
     let hi = hi.format(kappa.hi).as_bytes();
     push_line(out, &[b"kappa", number, lo, hi])
 }
-
-#[cfg(test)]
-mod tests;

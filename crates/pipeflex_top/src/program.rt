@@ -110,6 +110,3 @@ fn deliver<K: Sink, E: Sink>(reply: &Reply, out: &mut K, err: &mut E) -> Status
     }
     reply.status
 }
-
-#[cfg(test)]
-mod tests;

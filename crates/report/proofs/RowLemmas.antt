@@ -53,9 +53,3 @@ certified_written m c answer u loads states old begun said new name nodes restra
 pub uncertified_written : (m : Lists) (c : Case) (answer : CaseAnswer) (cause : Cause) (guess : List ℤ) (old begun new : List ℕ) (us : List ℤ) → answer ≡ Uncertified cause guess → us ≡ guess
     → begun ≡ old ++ line (uncertified_words m c cause) → new ≡ begun ++ flat_map line (candidate_lines m cause us) → new ≡ old ++ flat_map line (answer_lines m c answer)
 uncertified_written m c answer cause guess old begun new us is us_is begin step = rw (is, step, begin, us_is) (append_assoc old _ _)
-
--- one restraint has its loads
-pub loads_of_one : (restraints : List Restraint) (r : Restraint) → length restraints ≡ 1 → loads_count restraints ≡ load_count (get_or restraints 0 r).kind
-loads_of_one [] r one = absurd (omega arith)
-loads_of_one (first ∷ []) r one = omega arith
-loads_of_one (first ∷ second ∷ rest) r one = absurd (omega arith)

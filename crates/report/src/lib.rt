@@ -9,6 +9,3 @@ mod words;
 
 pub use lines::bytes;
 pub use rounding::printed_pairs_hold;
-
-#[cfg(test)]
-mod tests;

@@ -5,8 +5,5 @@ mod fault;
 mod numerators;
 mod refinement;
 mod substitution;
-#[cfg(test)]
-mod tests;
-
 pub use fault::{NoMemory, SolveFault};
 pub use refinement::candidate;

@@ -10,6 +10,3 @@ mod touching;
 pub use building::build;
 pub use elements::element_members;
 pub use fault::BuildFault;
-
-#[cfg(test)]
-mod tests;

@@ -8,6 +8,3 @@ mod numbers;
 pub use fields::{cut_line, push_line, split_once};
 pub use names::Name;
 pub use numbers::{NumberFault, number};
-
-#[cfg(test)]
-mod tests;

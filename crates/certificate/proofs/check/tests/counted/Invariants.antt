@@ -1,8 +1,0 @@
-use Rattle.std.proofs.Common.{◌≡◌, ◌<◌, ◌+◌, ℕ, length, slice_index}
-use Rattle.certificate.proofs.check.tests.counted.Given as goal
-
-abbrev pub invariant-loop-number : goal.invariant-loop-number
-invariant-loop-number l = record {
-  count : length l.numbers.items + l.from ≡ l.number;
-  values : (k : ℕ) → k < length l.numbers.items → slice_index l.numbers.items k ≡ l.from + k;
-}

@@ -1,0 +1,55 @@
+use Rattle.std.proofs.Common.{◌≡◌, ℕ, zero, suc, ◌<◌, inl, ◌∙◌, sym, ap, subst, arith, List, [], ◌∷◌, ◌++◌, length, slice_index, get_or}
+use Rattle.std.specs.Prelude.{All, AllPairs, Contains, ◌↔◌}
+use Rattle.std.proofs.lemmas.Grind.{get_or_default_zero}
+use Rattle.flex_interval.specs.Ends.{Ends}
+use Rattle.member_set.specs.declared.members.Member.{Member}
+use Rattle.member_set.specs.declared.members.Built.{Built}
+use Rattle.member_set.specs.Members.{no_member, Touches, member_of, IsBuilt}
+use Rattle.certificate.specs.Bounds.{IsStiff}
+use Rattle.matrix_tests.proofs.bounds.held_node.Goals as goal
+
+-- the numbers from 0 on, at the only node
+at_rising : (numbers : List ℕ) (n : ℕ) → length numbers ≡ n → ((k : ℕ) → k < n → slice_index numbers k ≡ k) →
+    (node : ℕ) → AllPairs (λ x y. x < y) (get_or (numbers ∷ []) node [])
+at_rising numbers n as_many count zero = λ i j d less inside.
+    omega (arith, get_or_default_zero numbers i d (omega arith), get_or_default_zero numbers j d inside, count i (omega arith), count j (omega arith))
+at_rising numbers n as_many count (suc node) = λ i j d less inside. absurd (omega arith)
+
+at_touching : (members : List Member) (kappa : Ends) (numbers : List ℕ) → length numbers ≡ length members → ((k : ℕ) → k < length members → slice_index numbers k ≡ k) →
+    All (λ m. (m.n1 ≡ 0) × (m.n2 ≡ 0) × (m.kappa ≡ kappa)) members → (node k : ℕ) → node < 1 →
+    Contains (get_or (numbers ∷ []) node []) k ↔ ((k < length members) × Touches (get_or members k no_member) node)
+at_touching members kappa numbers as_many count at_node zero k inside = (
+  λ found.
+      let k_inside : k < length members = omega (arith, found.2, get_or_default_zero numbers found.0 k found.1, count found.0 (omega arith)) in
+      (k_inside, inl (at_node k no_member k_inside).0),
+  λ touch. (k, omega arith, get_or_default_zero numbers k k (omega arith) ∙ count k touch.0),
+)
+at_touching members kappa numbers as_many count at_node (suc node) k inside = absurd (omega arith)
+
+one_node : (b : Built) (kappa : Ends) (numbers : List ℕ) → b.at ≡ numbers ∷ [] → length numbers ≡ length b.members →
+    ((k : ℕ) → k < length b.members → slice_index numbers k ≡ k) → All (λ m. (m.n1 ≡ 0) × (m.n2 ≡ 0) × (m.kappa ≡ kappa)) b.members → IsBuilt b
+one_node b kappa numbers at_is as_many count at_node =
+    let one = ap (λ (xs : List (List ℕ)). length xs) at_is in
+    record {
+      numbered = omega (arith, one);
+      first_node = λ k inside. omega (arith, one, (at_node k no_member inside).0);
+      second_node = λ k inside. omega (arith, one, (at_node k no_member inside).1);
+      rising = λ node. subst (λ (xs : List (List ℕ)). AllPairs (λ x y. x < y) (get_or xs node [])) (sym at_is) (at_rising numbers (length b.members) as_many count node);
+      touching = λ node k inside.
+          subst (λ (xs : List (List ℕ)). Contains (get_or xs node []) k ↔ ((k < length b.members) × Touches (member_of b k) node)) (sym at_is)
+          (at_touching b.members kappa numbers as_many count at_node node k (omega (arith, one)));
+    }
+
+pub returns-clause-built : goal.returns-clause-built
+returns-clause-built c =
+    let numbers = c.in_ok-numbers.field-0.items in
+    let pushed : c.push.new.self.items ≡ c.new.result ∷ [] = c.in_ok-push.ensures.items ∙ ap (λ (xs : List (List ℕ)). xs ++ (c.new.result ∷ [])) c.new-at.ensures.items in
+    let at_is : c.new-7.result ≡ numbers ∷ [] = c.new-7.ensures ∙ pushed ∙ ap (λ (xs : List ℕ). xs ∷ []) c.new.ensures in
+    let six : length c.new-2.result ≡ 6 = rw c.new-2.ensures c.in_ok-members.ensures.six in
+    let all : All (λ m. (m.n1 ≡ 0) × (m.n2 ≡ 0) × (m.kappa ≡ c.args.kappa)) c.new-2.result = rw c.new-2.ensures c.in_ok-members.ensures.anchors in
+    one_node _ c.args.kappa numbers at_is (omega (arith, six, c.in_ok-numbers.ensures.0)) (λ k below. c.in_ok-numbers.ensures.1 k (omega (arith, six))) all
+
+pub returns-clause-stiff : goal.returns-clause-stiff
+returns-clause-stiff c = λ k inside.
+    let all : All (λ m. (m.n1 ≡ 0) × (m.n2 ≡ 0) × (m.kappa ≡ c.args.kappa)) c.new-2.result = rw c.new-2.ensures c.in_ok-members.ensures.anchors in
+    subst (λ (e : Ends). IsStiff e) (sym (all k no_member inside).2) c.requires

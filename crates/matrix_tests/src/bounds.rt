@@ -1,0 +1,153 @@
+//! One node that six members of one stiffness hold, each in one freedom.
+ghost use Rattle.std.specs.Prelude.{◌≡◌, ℕ, ◌^◌, ◌<◌, ◌≤◌, [], All, length, slice_index, pos, ◌≤ℤ◌, unsigned_abs, IfOk};
+ghost use Rattle.member_set.specs.Members.{IsBuilt, row_count};
+ghost use Rattle.certificate.specs.Bounds.{IsStiff, AreStiff};
+
+use crate::makers::{counted, one_node};
+use certificate::{EncloseFault, enclose};
+use flex_interval::{Iv, point};
+use member_set::{Built, Law, Member};
+use std::alloc::{AllocError, Global};
+use std::test::Fail;
+
+const LAWS: [Law; 6] = [Law::Linear {
+    offset: Iv { lo: 0, hi: 0 },
+}; 6];
+
+fn anchor(freedom: usize, kappa: Iv) -> Member
+    requires { freedom < 6 }
+    ensures first { result.n1 ≡ 0 }
+    ensures second { result.n2 ≡ 0 }
+    ensures stiffness { result.kappa ≡ kappa }
+{
+    let mut w = [point(0); 12];
+    w[freedom] = point(1 << 56);
+    Member {
+        n1: 0,
+        n2: 0,
+        kappa,
+        w,
+    }
+}
+
+fn anchors(alloc: Global, kappa: Iv) -> Result<Vec<Member>, AllocError>
+    ensures six { IfOk result (λ v. length v.items ≡ 6) }
+    ensures anchors { IfOk result (λ v. All (λ m. (m.n1 ≡ 0) × (m.n2 ≡ 0) × (m.kappa ≡ kappa)) v.items) }
+{
+    let mut members = Vec::new(alloc);
+    for freedom in 0..6usize {
+        members.push(anchor(freedom, kappa))?;
+    }
+    Ok(members)
+}
+
+fn held_node(alloc: Global, kappa: Iv) -> Result<Built, AllocError>
+    requires { IsStiff kappa }
+    ensures built { IfOk result (λ b. IsBuilt b) }
+    ensures stiff { IfOk result (λ b. AreStiff b) }
+    ensures linear { IfOk result (λ b. b.unilateral ≡ []) }
+    ensures members { IfOk result (λ b. length b.members ≡ 6) }
+    ensures rows { IfOk result (λ b. row_count b ≡ 6) }
+{
+    one_node(alloc, anchors(alloc, kappa)?, counted(alloc, 0, 6)?)
+}
+
+fn are_ends(intervals: &[Iv], ends: &[(i128, i128)]) -> bool {
+    if intervals.len() != ends.len() {
+        return false;
+    }
+    for k in 0..ends.len() {
+        let e = intervals[k];
+        if (e.lo, e.hi) != ends[k] {
+            return false;
+        }
+    }
+    true
+}
+
+// Whether there are no bounds where only the first freedom has a load and a displacement.
+fn is_wide(alloc: Global, kappa: Iv, load: i128, u: i128, lambda: i128) -> Result<bool, AllocError>
+    requires stiff { IsStiff kappa }
+    requires load { unsigned_abs load < 2 ^ 126 }
+    requires moderate { unsigned_abs u ≤ 2 ^ 60 }
+    requires positive { pos 1 ≤ℤ lambda }
+{
+    let structure = held_node(alloc, kappa)?;
+    let mut loads = [point(0); 6];
+    loads[0] = point(load);
+    let u = [u, 0, 0, 0, 0, 0];
+    match enclose(alloc, &structure, &LAWS, &loads, &u, lambda) {
+        Ok(_) => Ok(false),
+        Err(EncloseFault::Wide) => Ok(true),
+        Err(EncloseFault::NoMemory) => Err(AllocError),
+    }
+}
+
+// With 3 N/m, or one unit less, the forces are 15 and -3 millions of 2^-40 N, to five units and to one. What is left is at most
+// 7, 12, 4, 84, 0 and 1 in size: 7266 as a sum of squares, between 85^2 and 86^2. Over 1000 units of stiffness that makes
+// 5,909,874,999.3 units of displacement, and 86 times the root of 3145.728 is 4823.5 units of force.
+#[test]
+fn around_a_node(rt: HostRuntime) -> Result<(), Fail> {
+    let kappa = Iv {
+        lo: 3_145_727,
+        hi: 3_145_728,
+    };
+    let structure = held_node(rt.alloc(), kappa)?;
+    let loads = [
+        point(15_728_642),
+        point(-12),
+        point(-3_145_731),
+        point(84),
+        point(0),
+        point(1),
+    ];
+    let u = [5 << 36, 0, -(1 << 36), 0, 0, 7];
+    let answer = enclose(rt.alloc(), &structure, &LAWS, &loads, &u, 1000)?;
+    let displacements = [
+        (337_687_508_680, 349_507_258_680),
+        (-5_909_875_000, 5_909_875_000),
+        (-74_629_351_736, -62_809_601_736),
+        (-5_909_875_000, 5_909_875_000),
+        (-5_909_875_000, 5_909_875_000),
+        (-5_909_874_993, 5_909_875_007),
+    ];
+    let forces = [
+        (15_723_811, 15_733_464),
+        (-4824, 4824),
+        (-3_150_552, -3_140_903),
+        (-4824, 4824),
+        (-4824, 4824),
+        (-4824, 4825),
+    ];
+    assert!(rt; are_ends(answer.u.as_slice(), &displacements));
+    assert!(rt; are_ends(answer.force.as_slice(), &forces));
+    assert_eq!(rt; answer.closed.as_slice().len(), 0);
+    Ok(())
+}
+
+// At each limit, and one below it: the forces, the sum of squares, the radius of the displacements, that of the forces.
+#[test]
+fn limits(rt: HostRuntime) -> Result<(), Fail> {
+    let soft = point(3 << 20);
+    let stiff = point(1 << 60);
+    let rows = [
+        (
+            is_wide(rt.alloc(), stiff, (1 << 66) - (1 << 24), (1 << 42) - 1, 1)?,
+            false,
+        ),
+        (is_wide(rt.alloc(), stiff, 1 << 66, 1 << 42, 1)?, true),
+        (is_wide(rt.alloc(), soft, (1 << 63) - 1, 0, 1 << 40)?, false),
+        (is_wide(rt.alloc(), soft, 1 << 63, 0, 1 << 40)?, true),
+        (is_wide(rt.alloc(), soft, (1 << 24) - 1, 0, 1)?, false),
+        (is_wide(rt.alloc(), soft, 1 << 24, 0, 1)?, true),
+        (
+            is_wide(rt.alloc(), stiff, (1 << 40) - 1, 0, 1 << 20)?,
+            false,
+        ),
+        (is_wide(rt.alloc(), stiff, 1 << 40, 0, 1 << 20)?, true),
+    ];
+    for (answer, expected) in rows {
+        assert_eq!(rt; answer, expected);
+    }
+    Ok(())
+}

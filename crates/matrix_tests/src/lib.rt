@@ -1,0 +1,17 @@
+//! Tests of matrices, their factors and certificates: values worked by hand or with fractions outside this program.
+#![tactic(auto)]
+
+#[cfg(test)]
+mod blocks;
+#[cfg(test)]
+mod bounds;
+#[cfg(test)]
+mod columns;
+#[cfg(test)]
+mod definiteness;
+#[cfg(test)]
+mod factors;
+#[cfg(test)]
+mod makers;
+#[cfg(test)]
+mod refinement;

@@ -1,0 +1,157 @@
+//! A cantilever of 1 m: at rest, with a load at its tip, with a load that is too large, and on an anchor that is too stiff.
+ghost use Rattle.std.specs.Prelude.{◌≡◌, length};
+ghost use Rattle.factor.specs.State.{AreParents};
+ghost use Rattle.factor_data.specs.Order.{IsOrder};
+
+use crate::makers::{check_anchors, check_forces, model};
+use case_run::answers;
+use model_types::{Bounds, CaseAnswer, Cause, NodeId};
+use std::alloc::Global;
+use std::process::Abort;
+use std::test::Fail;
+
+// The nodes in their order, and the parent of each place.
+fn order() -> [u32; 2]
+    ensures count { length result ≡ 2 }
+    ensures order { IsOrder result }
+{
+    [0, 1]
+}
+
+fn parents() -> [Option<u32>; 2]
+    ensures count { length result ≡ 2 }
+    ensures later { AreParents result 2 }
+{
+    [Some(1), None]
+}
+
+// The answers of a straight along the x axis from its anchor: at rest, with 1000 N down at its tip, and with 10^9 N up there.
+fn answers_of(rt: &impl Abort, alloc: Global, stiffness: &str) -> Vec<CaseAnswer> {
+    let lines = format!(in alloc; "node a 0 0 0
+node b 1000000 0 0
+straight p a b s
+anchor A a {stiffness} -
+case rest 0 0 0 0 0 0
+case tip 0 0 0 0 0 0
+case great 0 0 0 0 0 0
+force tip b 0 0 -1000000 0 0 0
+force great b 0 0 1000000000000 0 0 0
+").expect(rt, "memory");
+    let m = model(rt, alloc, &lines);
+    assert!(rt; m.nodes().len() == 2);
+    check_anchors(rt, &m);
+    for case in 0..m.cases().len() {
+        check_forces(rt, &m, case);
+    }
+    answers(alloc, &m, &order(), &parents()).expect(rt, "memory")
+}
+
+// 10^9 nm are a m, and 10^3 mN are a N.
+const NANOMETRES: (i128, u32) = (1_000_000_000, 56);
+
+const MILLINEWTONS: (i128, u32) = (1000, 40);
+
+// A number rounded down to a unit.
+fn floor(rt: &impl Abort, number: i128, unit: (i128, u32)) -> i128
+    requires { unit.1 < 100 }
+{
+    number.checked_mul(unit.0).expect(rt, "a product") >> unit.1
+}
+
+// Bounds rounded outward to a unit are these.
+fn bound(rt: &impl Abort, bounds: &[Bounds], unit: (i128, u32), outward: &[(i128, i128)])
+    requires { unit.1 < 100 }
+{
+    assert_eq!(rt; bounds.len(), outward.len());
+    for place in 0..bounds.len() {
+        let upper = bounds[place].hi.checked_neg().expect(rt, "a number");
+        let (lo, hi) = outward[place];
+        assert_eq!(rt; floor(rt, bounds[place].lo, unit), lo, "lower at {place}");
+        assert_eq!(rt;
+            floor(rt, upper, unit).checked_neg(),
+            Some(hi),
+            "upper at {place}"
+        );
+    }
+}
+
+// The bounds of 1 nm, or 1 mN, around 0, and around nothing else.
+const AROUND: (i128, i128) = (-1, 1);
+
+// The tip sinks by 575 micrometres and turns by 863 microradians; its anchor gives way by a ten-millionth.
+#[test]
+fn tip(rt: HostRuntime) -> Result<(), Fail> {
+    let found = answers_of(&rt, rt.alloc(), "-");
+    match found.as_slice() {
+        [
+            CaseAnswer::Certified { u: rest, .. },
+            CaseAnswer::Certified { u, loads, states },
+            CaseAnswer::Uncertified { cause, guess },
+        ] => {
+            bound(&rt, rest.as_slice(), NANOMETRES, &[(0, 0); 12]);
+            bound(
+                &rt,
+                u.as_slice(),
+                NANOMETRES,
+                &[
+                    AROUND,
+                    AROUND,
+                    (-101, -99),
+                    AROUND,
+                    (99, 101),
+                    AROUND,
+                    AROUND,
+                    AROUND,
+                    (-575_286, -575_285),
+                    AROUND,
+                    (862_728, 862_729),
+                    AROUND,
+                ],
+            );
+            bound(
+                &rt,
+                loads.as_slice(),
+                MILLINEWTONS,
+                &[
+                    AROUND,
+                    AROUND,
+                    (-1_000_001, -999_999),
+                    AROUND,
+                    (999_999, 1_000_001),
+                    AROUND,
+                ],
+            );
+            assert!(rt; states.is_empty() && guess.is_empty());
+            assert_eq!(rt;
+                *cause,
+                Cause::WidthLoad {
+                    node: NodeId(1),
+                    freedom: 2
+                }
+            );
+        }
+        _ => assert!(rt; false, "two certified cases and one that isn't"),
+    }
+    Ok(())
+}
+
+// The row of a stiffness of 2 * 10^12 N/m is wide in every case.
+#[test]
+fn stiff_anchor(rt: HostRuntime) {
+    let found = answers_of(&rt, rt.alloc(), "2000000000000");
+    assert_eq!(rt; found.len(), 3);
+    for answer in &found {
+        match answer {
+            CaseAnswer::Uncertified { cause, .. } => {
+                assert_eq!(rt;
+                    *cause,
+                    Cause::WidthMatrix {
+                        node: NodeId(0),
+                        freedom: 0
+                    }
+                );
+            }
+            CaseAnswer::Certified { .. } => assert!(rt; false, "a certified case"),
+        }
+    }
+}

@@ -1,0 +1,17 @@
+//! Tests of models, from their records to the answers of their cases. A model is written as an analyst writes it.
+#![tactic(auto)]
+
+#[cfg(test)]
+mod cases;
+#[cfg(test)]
+mod loads;
+#[cfg(test)]
+mod makers;
+#[cfg(test)]
+mod records;
+#[cfg(test)]
+mod reports;
+#[cfg(test)]
+mod structures;
+#[cfg(test)]
+mod texts;

@@ -1,0 +1,42 @@
+//! Models of text, and what the calls under test require of them.
+ghost use Rattle.std.specs.Prelude.{◌<◌, length};
+ghost use Rattle.load_vectors.specs.Loads.{HasForcesAlone, case_at};
+ghost use Rattle.structure.specs.Anchors.{HasAnchorsAlone};
+
+use model_text::read;
+use model_types::{Model, RestraintKind};
+use std::alloc::Global;
+use std::process::Abort;
+
+// A tube of steel.
+pub(crate) const TUBE: &str = "pipeflex 1
+material st 200000 300 12000 7850
+section s st 100000 10000 0 0
+";
+
+// The model of a tube and of further lines.
+pub(crate) fn model(rt: &impl Abort, alloc: Global, lines: &str) -> Model {
+    let text = format!(in alloc; "{TUBE}{lines}").expect(rt, "memory");
+    read(alloc, text.as_bytes()).expect(rt, "a model")
+}
+
+// There are no restraints but anchors.
+pub(crate) fn check_anchors(rt: &impl Abort, m: &Model)
+    ensures { HasAnchorsAlone m.now }
+{
+    for restraint in m.restraints() {
+        assert!(rt; matches!(restraint.kind, RestraintKind::Anchor { .. }));
+    }
+}
+
+// Nothing but forces acts in the case.
+pub(crate) fn check_forces(rt: &impl Abort, m: &Model, case: usize)
+    ensures there { case < length m.now.cases }
+    ensures alone { HasForcesAlone (case_at m.now case) }
+{
+    let cases = m.cases();
+    assert!(rt; case < cases.len());
+    let c = &cases[case];
+    assert!(rt; c.gx == 0 && c.gy == 0 && c.gz == 0);
+    assert!(rt; !c.hangers && c.dt == 0 && c.p == 0);
+}

@@ -1,0 +1,208 @@
+//! The base model, each refusal once, and a draft that is full.
+ghost use Rattle.text_words.specs.Names.{IsName};
+ghost use Rattle.model_types.specs.Ranges.{InForm, IsIn, coordinate, wall};
+
+use model_types::{
+    AddFault, Bounds, Case, CaseId, Draft, Element, Force, Material, MaterialId, Model, Name, Node,
+    NodeId, Record, Restraint, RestraintKind, Section, SectionId, Shape, Space, Values, WholeFault,
+};
+use std::alloc::Global;
+use std::process::Abort;
+use std::test::Fail;
+
+const NO_SINE: Bounds = Bounds { lo: 0, hi: 0 };
+
+fn name(rt: &impl Abort, text: &str) -> Name
+    ensures { IsName result }
+{
+    Name::new(text.as_bytes()).expect(rt, "a name")
+}
+
+fn steel(rt: &impl Abort) -> Record
+    ensures { InForm result }
+{
+    Record::Material(Material {
+        name: name(rt, "st"),
+        e: 200_000,
+        nu: 300,
+        alpha: 12_000,
+        rho: 7850,
+    })
+}
+
+fn section(rt: &impl Abort, material: u32, t: i64) -> Record
+    requires { IsIn wall t }
+    ensures { InForm result }
+{
+    Record::Section(Section {
+        name: name(rt, "s"),
+        material: MaterialId(material),
+        d: 100_000,
+        t,
+        allowance: 0,
+        extra: 0,
+    })
+}
+
+fn node(rt: &impl Abort, text: &str, x: i64) -> Record
+    requires { IsIn coordinate x }
+    ensures { InForm result }
+{
+    Record::Node(Node {
+        name: name(rt, text),
+        x,
+        y: 0,
+        z: 0,
+    })
+}
+
+fn straight(rt: &impl Abort, from: u32, to: u32) -> Record
+    ensures { InForm result }
+{
+    Record::Element(Element {
+        name: name(rt, "p"),
+        from: NodeId(from),
+        to: NodeId(to),
+        section: SectionId(0),
+        shape: Shape::Straight,
+    })
+}
+
+fn anchor(rt: &impl Abort, node: u32) -> Record
+    ensures { InForm result }
+{
+    Record::Restraint(Restraint {
+        name: name(rt, "A"),
+        node: NodeId(node),
+        kind: RestraintKind::Anchor { kt: None, kr: None },
+    })
+}
+
+fn rest(rt: &impl Abort) -> Record
+    ensures { InForm result }
+{
+    Record::Case(Case {
+        name: name(rt, "rest"),
+        gx: 0,
+        gy: 0,
+        gz: 0,
+        hangers: false,
+        dt: 0,
+        p: 0,
+    })
+}
+
+fn force(case: u32, node: u32) -> Record
+    ensures { InForm result }
+{
+    Record::Force(Force {
+        case: CaseId(case),
+        node: NodeId(node),
+        fx: 0,
+        fy: 0,
+        fz: -1_000_000,
+        mx: 0,
+        my: 0,
+        mz: 0,
+    })
+}
+
+// The draft takes the record.
+fn accept(rt: &impl Abort, draft: &mut Draft, candidate: Record)
+    requires { InForm candidate }
+{
+    assert_eq!(rt; draft.add(candidate, NO_SINE), Ok(()));
+}
+
+// The draft refuses the record by that number.
+fn refuse(rt: &impl Abort, draft: &mut Draft, candidate: Record, number: u8)
+    requires { InForm candidate }
+{
+    assert_eq!(rt;
+        draft.add(candidate, NO_SINE),
+        Err(AddFault::Refused(number))
+    );
+}
+
+#[test]
+fn takes_a_model(rt: HostRuntime) {
+    let mut draft = Draft::new(rt.alloc()).expect(&rt, "memory");
+    accept(&rt, &mut draft, steel(&rt));
+    accept(&rt, &mut draft, section(&rt, 0, 10_000));
+    accept(&rt, &mut draft, node(&rt, "a", 0));
+    accept(&rt, &mut draft, node(&rt, "b", 30_000_000));
+    accept(&rt, &mut draft, straight(&rt, 0, 1));
+    accept(&rt, &mut draft, anchor(&rt, 0));
+    accept(&rt, &mut draft, rest(&rt));
+    accept(&rt, &mut draft, force(0, 1));
+    assert_eq!(rt; draft.count(Space::Node), 2);
+    assert_eq!(rt; draft.find(Space::Node, &name(&rt, "b")), Some(1));
+    assert_eq!(rt; draft.find(Space::Node, &name(&rt, "p")), None);
+    assert_eq!(rt; draft.find(Space::Element, &name(&rt, "p")), Some(0));
+    counts(&rt, &draft.finish().expect(&rt, "a model"));
+}
+
+// The base model has these records.
+fn counts(rt: &impl Abort, model: &Model) {
+    assert_eq!(rt; model.materials().len(), 1);
+    assert_eq!(rt; model.sections().len(), 1);
+    assert_eq!(rt; model.nodes().len(), 2);
+    assert_eq!(rt; model.elements().len(), 1);
+    assert_eq!(rt; model.restraints().len(), 1);
+    assert_eq!(rt; model.cases().len(), 1);
+    assert_eq!(rt; model.forces().len(), 1);
+    assert!(rt;
+        model.tees().is_empty() && model.temps().is_empty() && model.pressures().is_empty()
+    );
+    assert!(rt; model.moves().is_empty() && model.checks().is_empty());
+}
+
+#[test]
+fn refuses_by_number(rt: HostRuntime) {
+    let mut draft = Draft::new(rt.alloc()).expect(&rt, "memory");
+    accept(&rt, &mut draft, steel(&rt));
+    refuse(&rt, &mut draft, steel(&rt), 8);
+    refuse(&rt, &mut draft, section(&rt, 0, 50_000), 13);
+    refuse(&rt, &mut draft, section(&rt, u32::MAX, 50_000), 9);
+    accept(&rt, &mut draft, section(&rt, 0, 10_000));
+    accept(&rt, &mut draft, node(&rt, "a", 0));
+    accept(&rt, &mut draft, node(&rt, "b", 30_000_001));
+    accept(&rt, &mut draft, node(&rt, "c", 0));
+    refuse(&rt, &mut draft, straight(&rt, 0, u32::MAX), 9);
+    refuse(&rt, &mut draft, straight(&rt, 0, 2), 10);
+    refuse(&rt, &mut draft, straight(&rt, 0, 1), 11);
+    refuse(&rt, &mut draft, force(u32::MAX, 0), 9);
+}
+
+#[test]
+fn misses_a_node(rt: HostRuntime) {
+    let draft = Draft::new(rt.alloc()).expect(&rt, "memory");
+    assert!(rt; matches!(draft.finish(), Err(WholeFault::Missing)));
+}
+
+#[test]
+fn fills_up(rt: HostRuntime) {
+    let mut draft = Draft::new(rt.alloc()).expect(&rt, "memory");
+    for i in 0..2000 {
+        accept_node(&rt, rt.alloc(), &mut draft, i);
+    }
+    assert_eq!(rt; draft.find(Space::Node, &name(&rt, "n1234")), Some(1234));
+    refuse(&rt, &mut draft, node(&rt, "one-more", 0), 14);
+    refuse(&rt, &mut draft, node(&rt, "n7", 0), 8);
+}
+
+// The draft takes a node whose name is made of its number.
+fn accept_node(rt: &impl Abort, alloc: Global, draft: &mut Draft, number: u32) {
+    let text = format!(in alloc; "n{number}").expect(rt, "memory");
+    accept(rt, draft, node(rt, &text, 0));
+}
+
+#[test]
+fn keeps_values(rt: HostRuntime) -> Result<(), Fail> {
+    let values = Values::new([3, 4].to_vec(rt.alloc())?);
+    assert!(rt; !values.is_empty());
+    assert_eq!(rt; values.len(), 2);
+    assert_eq!(rt; values.as_slice(), [3, 4].as_slice());
+    assert_eq!(rt; values.into_vec().as_slice(), [3, 4].as_slice());
+    Ok(())
+}

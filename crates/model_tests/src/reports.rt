@@ -1,0 +1,284 @@
+//! Whole reports, as they are worked out by hand from the mechanics of a pipe of one metre.
+ghost use Rattle.std.specs.Prelude.{◌≡◌, ◌≤◌, length, IsTrue, All};
+ghost use Rattle.report.specs.Fits.{AreModest, FitsModel, IsCauseIn, IsGuess, IsModest, loads_count};
+
+use crate::makers::model;
+use model_types::{
+    Bounds, CaseAnswer, Cause, ElementId, Model, NodeId, RestraintId, RestraintKind, Values,
+};
+use report::bytes;
+use std::alloc::Global;
+use std::process::Abort;
+use std::test::Fail;
+
+const NOTHING: Bounds = Bounds { lo: 0, hi: 0 };
+
+// A pipe p of one metre to a node of that name, with an anchor A at its first node a, and further lines.
+fn pipe(rt: &impl Abort, alloc: Global, end: &str, lines: &str) -> Model {
+    let text = format!(in alloc; "node a 0 0 0
+node {end} 1000000 0 0
+straight p a {end} s
+anchor A a - -
+{lines}").expect(rt, "memory");
+    model(rt, alloc, &text)
+}
+
+fn is_modest(z: i128) -> bool
+    ensures { IsTrue result → IsModest z }
+{
+    -(1 << 90) < z && z < 1 << 90
+}
+
+fn are_modest(bounds: &[Bounds]) -> bool
+    ensures { IsTrue result → AreModest bounds.now }
+{
+    for b in bounds {
+        if !is_modest(b.lo) || !is_modest(b.hi) {
+            return false;
+        }
+    }
+    true
+}
+
+fn are_all_modest(u: &[i128]) -> bool
+    ensures { IsTrue result → All IsModest u.now }
+{
+    for z in u {
+        if !is_modest(*z) {
+            return false;
+        }
+    }
+    true
+}
+
+fn is_candidate(m: &Model, u: &[i128]) -> bool
+    ensures { IsTrue result → IsGuess m.now u.now }
+{
+    u.len() % 6 == 0 && u.len() / 6 == m.nodes().len() && are_all_modest(u)
+}
+
+// The loads of a model with an anchor and no other restraint.
+#[tactic(auto, using(crate::proofs::LoadLemmas::loads_of_one))]
+fn are_loads(m: &Model, loads: &[Bounds]) -> bool
+    ensures { IsTrue result → length loads.now ≡ loads_count m.now.restraints }
+{
+    let restraints = m.restraints();
+    if restraints.len() != 1 || loads.len() != 6 {
+        return false;
+    }
+    matches!(restraints[0].kind, RestraintKind::Anchor { .. })
+}
+
+fn is_cause_in(m: &Model, cause: &Cause) -> bool
+    ensures { IsTrue result → IsCauseIn m.now cause.now }
+{
+    match *cause {
+        Cause::WidthElement(element) => (element.0 as usize) < m.elements().len(),
+        Cause::WidthFactor(node) => (node.0 as usize) < m.nodes().len(),
+        Cause::WidthMatrix { node, freedom }
+        | Cause::Pivot { node, freedom }
+        | Cause::Margin { node, freedom }
+        | Cause::WidthLoad { node, freedom } => {
+            (node.0 as usize) < m.nodes().len() && freedom < 6
+        }
+        Cause::WidthSolve { .. } | Cause::Turns | Cause::WidthResidual => true,
+        Cause::State { restraint, .. } => (restraint.0 as usize) < m.restraints().len(),
+    }
+}
+
+fn certified(
+    rt: &impl Abort,
+    alloc: Global,
+    m: &Model,
+    u: &[Bounds],
+    loads: &[Bounds],
+) -> CaseAnswer
+    ensures { FitsModel m.now result }
+{
+    assert!(rt; u.len() % 6 == 0 && u.len() / 6 == m.nodes().len());
+    assert!(rt; are_loads(m, loads));
+    assert!(rt; are_modest(u));
+    assert!(rt; are_modest(loads));
+    CaseAnswer::Certified {
+        u: Values::new(Vec::from_slice(alloc, u).expect(rt, "memory")),
+        loads: Values::new(Vec::from_slice(alloc, loads).expect(rt, "memory")),
+        states: Values::new(Vec::new(alloc)),
+    }
+}
+
+fn uncertified(
+    rt: &impl Abort,
+    alloc: Global,
+    m: &Model,
+    cause: Cause,
+    guess: &[i128],
+) -> CaseAnswer
+    ensures { FitsModel m.now result }
+{
+    assert!(rt; is_cause_in(m, &cause));
+    assert!(rt; guess.is_empty() || is_candidate(m, guess));
+    let guess = Values::new(Vec::from_slice(alloc, guess).expect(rt, "memory"));
+    CaseAnswer::Uncertified { cause, guess }
+}
+
+// The report of a model with one case.
+fn expect_report(rt: &impl Abort, alloc: Global, m: &Model, answer: CaseAnswer, report: &str)
+    requires { FitsModel m.now answer }
+{
+    assert_eq!(rt; m.cases().len(), 1);
+    let written = bytes(alloc, m, &[answer]).expect(rt, "memory");
+    assert_eq!(rt; written.as_slice(), report.as_bytes());
+}
+
+const AT_REST: &str = "\
+pipeflex report 1
+model 2 1 1 1 0
+case rest certified
+node a 0 0 0 0 0 0 0 0 0 0 0 0
+node b 0 0 0 0 0 0 0 0 0 0 0 0
+restraint A 0 0 0 0 0 0 0 0 0 0 0 0
+end
+";
+
+#[test]
+fn a_case_at_rest(rt: HostRuntime) {
+    let m = pipe(&rt, rt.alloc(), "b", "case rest 0 0 0 0 0 0\n");
+    let answer = certified(&rt, rt.alloc(), &m, &[NOTHING; 12], &[NOTHING; 6]);
+    expect_report(&rt, rt.alloc(), &m, answer, AT_REST);
+}
+
+const UNDER_A_LOAD: &str = "\
+pipeflex report 1
+model 2 1 1 1 0
+case tip certified
+node a -1 1 -1 1 -101 -99 -1 1 99 101 -1 1
+node b -1 1 -1 1 -575286 -575285 -1 1 862728 862729 -1 1
+restraint A -1 1 -1 1 -1000001 -999999 -1 1 999999 1000001 -1 1
+end
+";
+
+// Three units of 2^-56 on both sides of a number.
+fn about(z: i128) -> Bounds
+    requires { IsModest z }
+{
+    Bounds {
+        lo: z - 3,
+        hi: z + 3,
+    }
+}
+
+// A load of 1,000 N at the tip, whose reactions are 1,000 N and 1,000 N m. The tip sinks by the sum of 1 / 3EI and of what
+// the anchor gives, and turns by 1 / 2EI and the anchor's turn.
+#[test]
+fn a_case_under_a_load(rt: HostRuntime) {
+    let m = pipe(&rt, rt.alloc(), "b", "case tip 0 0 0 0 0 0\n");
+    let some = about(0);
+    let u = [
+        some,
+        some,
+        about(-7_205_759_404),
+        some,
+        about(7_205_759_404),
+        some,
+        some,
+        some,
+        about(-41_453_697_077_778),
+        some,
+        about(62_166_134_097_860),
+        some,
+    ];
+    let newtons: i128 = 1_000 << 40;
+    let loads = [
+        some,
+        some,
+        Bounds {
+            lo: -newtons - 3,
+            hi: 3 - newtons,
+        },
+        some,
+        Bounds {
+            lo: newtons - 3,
+            hi: newtons + 3,
+        },
+        some,
+    ];
+    let answer = certified(&rt, rt.alloc(), &m, &u, &loads);
+    expect_report(&rt, rt.alloc(), &m, answer, UNDER_A_LOAD);
+}
+
+// The candidate of the same load, in 2^-56 m and rad.
+const CANDIDATE: [i128; 12] = [
+    0,
+    0,
+    -7_205_759_404,
+    0,
+    7_205_759_404,
+    0,
+    0,
+    0,
+    -41_453_725_043_703,
+    0,
+    62_166_103_989_153,
+    0,
+];
+
+#[test]
+fn a_contact_state_that_fails(rt: HostRuntime) {
+    let m = pipe(&rt, rt.alloc(), "b", "linear S b 0 1 0 -\ncase tip 0 0 0 0 0 0\n");
+    let report =
+        "pipeflex report 1\nmodel 2 1 2 1 0\ncase tip uncertified state S plus\nguess a 0 0 -100 0 100 0\nguess b 0 0 -575286 0 862728 0\nend\n";
+    let cause = Cause::State {
+        restraint: RestraintId(1),
+        minus: false,
+    };
+    let answer = uncertified(&rt, rt.alloc(), &m, cause, &CANDIDATE);
+    expect_report(&rt, rt.alloc(), &m, answer, report);
+}
+
+#[test]
+fn causes(rt: HostRuntime) -> Result<(), Fail> {
+    let m = pipe(&rt, rt.alloc(), "d", "linear S d 0 1 0 -\ncase rest 0 0 0 0 0 0\n");
+    let (a, d) = (NodeId(0), NodeId(1));
+    for (cause, words) in [
+        (Cause::WidthElement(ElementId(0)), "width element p"),
+        (
+            Cause::WidthMatrix {
+                node: a,
+                freedom: 0,
+            },
+            "width matrix a ux",
+        ),
+        (
+            Cause::Pivot {
+                node: d,
+                freedom: 0,
+            },
+            "pivot d ux",
+        ),
+        (Cause::WidthFactor(d), "width factor d"),
+        (
+            Cause::Margin {
+                node: d,
+                freedom: 5,
+            },
+            "margin d rz",
+        ),
+        (
+            Cause::WidthLoad {
+                node: d,
+                freedom: 2,
+            },
+            "width load d uz",
+        ),
+        (Cause::WidthSolve { turn: 17 }, "width solve 17"),
+        (Cause::Turns, "turns 200"),
+        (Cause::WidthResidual, "width residual"),
+    ] {
+        let report = format!(in rt.alloc();
+            "pipeflex report 1\nmodel 2 1 2 1 0\ncase rest uncertified {words}\nend\n"
+        )?;
+        let answer = uncertified(&rt, rt.alloc(), &m, cause, &[]);
+        expect_report(&rt, rt.alloc(), &m, answer, report.as_str());
+    }
+    Ok(())
+}

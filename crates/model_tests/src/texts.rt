@@ -1,0 +1,156 @@
+//! The base text, its canonical form, and each refusal.
+use model_text::{TextFault, echo, node_line, read};
+use model_types::NodeId;
+use std::alloc::Global;
+use std::process::Abort;
+
+const BASE: &str = "pipeflex 1
+material st 200000 300 12000 7850
+section s st 100000 10000 0 0
+node a 0 0 0
+node b 1000000 0 0
+straight p a b s
+anchor A a - -
+";
+
+// The number and line that refuse a text, or nothing where it is read.
+fn refusal(rt: &impl Abort, alloc: Global, text: &[u8]) -> Option<(u8, u32)> {
+    match read(alloc, text) {
+        Ok(_) => None,
+        Err(TextFault::Refused { number, line }) => Some((number, line)),
+        Err(TextFault::NoMemory) => panic!(rt; "no memory"),
+    }
+}
+
+// The base text with one more line.
+fn base_with(rt: &impl Abort, alloc: Global, line: &str) -> String {
+    format!(in alloc; "{BASE}{line}").expect(rt, "memory")
+}
+
+#[test]
+fn refuses_whole_texts(rt: HostRuntime) {
+    for (text, number, line) in [
+        ("", 3, 1),
+        ("\n # nothing\n", 3, 1),
+        ("pipeflex 1", 15, 1),
+        ("\n\npipeflex 2\n", 3, 3),
+        ("pipeflex 1 1\n", 3, 1),
+        ("pipeflex 1\nmaterial st 200000", 5, 2),
+        ("pipeflex 1\nmaterial st 2x 300 12000 7850\n", 6, 2),
+        ("pipeflex 1\n# \u{7f}\n", 2, 2),
+    ] {
+        assert_eq!(rt;
+            refusal(&rt, rt.alloc(), text.as_bytes()),
+            Some((number, line)),
+            "at {text}"
+        );
+    }
+}
+
+#[test]
+fn refuses_one_more_line(rt: HostRuntime) {
+    for (line, number) in [
+        ("node a 1 1 1", 8),
+        ("node c -0 0 0", 6),
+        ("node c 00000000000000000000 0 0", 6),
+        ("node c 1000000000000000000 0 0", 7),
+        ("node c 10000000001 0 0", 7),
+        ("node c 0 0", 5),
+        ("node - 0 0 0", 7),
+        ("nodes c 0 0 0", 4),
+        ("bend c", 17),
+        ("section w st 100000 50000 0 0", 13),
+        ("section w sx 100000 50000 0 0", 9),
+        ("straight q a a s", 10),
+        ("straight q a c s", 9),
+        ("anchor A c - -", 8),
+        ("linear B a 0 0 0 x", 7),
+        ("linear B a 0 0 x -", 6),
+        ("twist B a 0 0 1 0", 7),
+        ("case c 0 0 0 2 0 0", 7),
+        ("case c 0 0 0 1 0 0", 17),
+        ("force c a 0 0 0 0 0 0", 9),
+    ] {
+        let text = base_with(&rt, rt.alloc(), line);
+        assert_eq!(rt;
+            refusal(&rt, rt.alloc(), text.as_bytes()),
+            Some((number, 8)),
+            "at {line}"
+        );
+    }
+}
+
+#[test]
+fn reads_what_it_may(rt: HostRuntime) {
+    for line in [
+        "",
+        "\t# a comment: \t~",
+        " node\tfar  30000000 0 0 # a comment",
+        "twist B a 0 0 1 2000000000000",
+        "case c 0 0 0 0 0 0\nforce c b 0 0 -1000000 0 0 0\nforce c b 0 0 1 0 0 0",
+    ] {
+        let text = base_with(&rt, rt.alloc(), line);
+        assert_eq!(rt;
+            refusal(&rt, rt.alloc(), text.as_bytes()),
+            None,
+            "at {line}"
+        );
+    }
+}
+
+#[test]
+fn refuses_a_long_text(rt: HostRuntime) {
+    let text = vec![in rt.alloc(); b' '; 4_194_305].expect(&rt, "memory");
+    assert_eq!(rt; refusal(&rt, rt.alloc(), text.as_slice()), Some((1, 1)));
+}
+
+#[test]
+fn finds_the_line_of_a_node(rt: HostRuntime) {
+    let text = BASE.as_bytes();
+    let model = read(rt.alloc(), text).expect(&rt, "a model");
+    if model.nodes().len() > 1 {
+        let line = node_line(rt.alloc(), text, NodeId(1)).expect(&rt, "memory");
+        assert_eq!(rt; line, 5);
+    } else {
+        panic!(rt; "a node is missing");
+    }
+}
+
+// The canonical text of the model of a text.
+fn canonical(rt: &impl Abort, alloc: Global, text: &str) -> Vec<u8> {
+    let model = read(alloc, text.as_bytes()).expect(rt, "a model");
+    echo(alloc, &model).expect(rt, "memory")
+}
+
+#[test]
+fn echoes(rt: HostRuntime) {
+    let slanted = "pipeflex 1
+material st 200000 300 12000 7850
+section s st 100000 10000 0 0
+node a 0 0 0
+node b 1000000 1000000 0
+straight p a b s
+";
+    let echoed = canonical(&rt, rt.alloc(), slanted);
+    assert_eq!(rt; echoed.as_slice(), slanted.as_bytes());
+
+    let mixed = " pipeflex\t1 # header
+node a 0 0 0
+case c 0 0 0 0 0 0
+force c a -1 2 -3 4 -5 6
+
+twist T a 0 -1 0 7 # a rotation
+linear L a 3 0 4 -
+anchor A a - 10
+";
+    let sorted = "pipeflex 1
+node a 0 0 0
+twist T a 0 -1 0 7
+linear L a 3 0 4 -
+anchor A a - 10
+case c 0 0 0 0 0 0
+force c a -1 2 -3 4 -5 6
+";
+    let echoed = canonical(&rt, rt.alloc(), mixed);
+    assert_eq!(rt; echoed.as_slice(), sorted.as_bytes());
+}
