@@ -59,11 +59,11 @@ fn tells_names(rt: HostRuntime) {
 
 #[test]
 fn cuts_lines(rt: HostRuntime) {
-    let rest: &[u8] = b"b\n";
-    assert_eq!(rt; cut_line(b"a\nb\n"), (b"a".as_slice(), Some(rest)));
-    assert_eq!(rt; cut_line(b"b"), (b"b".as_slice(), None));
-    assert_eq!(rt;
-        split_once(b"k=v", b'='),
-        Some((b"k".as_slice(), b"v".as_slice()))
-    );
+    let rows: [(&[u8], &[u8], Option<&[u8]>); 2] =
+        [(b"a\nb\n", b"a", Some(b"b\n")), (b"b", b"b", None)];
+    for (text, line, rest) in rows {
+        assert!(rt; cut_line(text) == (line, rest), "{line:?}");
+    }
+    let halves: (&[u8], &[u8]) = (b"k", b"v");
+    assert!(rt; split_once(b"k=v", b'=') == Some(halves));
 }

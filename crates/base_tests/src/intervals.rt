@@ -1,6 +1,7 @@
 use flex_interval::{
     Iv, IvFault, Wide, abs, add, div, max, min, mul, neg, point, ratio, root, sub,
 };
+use std::test::Fail;
 
 type Ends = Result<(i128, i128), IvFault>;
 
@@ -118,18 +119,19 @@ fn roots(rt: HostRuntime) {
 }
 
 #[test]
-fn messages(rt: HostRuntime) -> Result<(), std::test::Fail> {
-    assert_eq!(rt;
-        format!(in rt.alloc(); "{}", IvFault::Wide)?.as_str(),
-        "an interval leaves its limit"
-    );
-    assert_eq!(rt;
-        format!(in rt.alloc(); "{}", IvFault::Zero)?.as_str(),
-        "a divisor holds 0"
-    );
-    assert_eq!(rt;
-        format!(in rt.alloc(); "{}", Wide::from(IvFault::Zero))?.as_str(),
-        "an enclosure leaves its limit"
-    );
+fn messages(rt: HostRuntime) -> Result<(), Fail> {
+    for (fault, want) in [
+        (
+            IvFault::Wide,
+            "an interval leaves its limit: an enclosure leaves its limit",
+        ),
+        (
+            IvFault::Zero,
+            "a divisor holds 0: an enclosure leaves its limit",
+        ),
+    ] {
+        let words = format!(in rt.alloc(); "{fault}: {}", Wide::from(fault))?;
+        assert_eq!(rt; words.as_str(), want);
+    }
     Ok(())
 }

@@ -1,3 +1,5 @@
+//! A matrix of three nodes.
+use crate::makers::add;
 use std::test::Fail;
 use sym_blocks::SymBlocks;
 
@@ -5,12 +7,13 @@ use sym_blocks::SymBlocks;
 #[test]
 fn adds_on_both_sides_of_the_diagonal(rt: HostRuntime) -> Result<(), Fail> {
     let mut matrix = SymBlocks::new(rt.alloc(), 3, &[(1, 0), (1, 2), (2, 1)])?;
-    assert_eq!(rt; matrix.pattern(0), [0, 1].as_slice());
-    assert_eq!(rt; matrix.pattern(1), [0, 1, 2].as_slice());
-    assert_eq!(rt; matrix.pattern(3), [].as_slice());
-    matrix.add(8, 5, -7);
-    matrix.add(5, 8, 2);
-    matrix.add(13, 13, 4);
+    let patterns: [&[u32]; 4] = [&[0, 1], &[0, 1, 2], &[1, 2], &[]];
+    for node in 0..4u32 {
+        assert_eq!(rt; matrix.pattern(node), patterns[node as usize], "of {node}");
+    }
+    for (row, col, v) in [(8, 5, -7), (5, 8, 2), (13, 13, 4)] {
+        add(&rt, &mut matrix, row, col, v);
+    }
     for (row, col, want) in [
         (5, 8, -5),
         (8, 5, -5),

@@ -1,13 +1,14 @@
 //! One node that six members of one stiffness hold, each in one freedom.
-ghost use Rattle.std.specs.Prelude.{◌≡◌, ℕ, ◌^◌, ◌<◌, ◌≤◌, [], All, length, slice_index, pos, ◌≤ℤ◌, unsigned_abs, IfOk};
-ghost use Rattle.member_set.specs.Members.{IsBuilt, row_count};
+ghost use Rattle.std.specs.Prelude.{◌≡◌, ◌^◌, ◌<◌, ◌≤◌, [], All, length, unsigned_abs, IfOk, IsTrue};
+ghost use Rattle.member_set.specs.Members.{IsBuilt, IsModerate, row_count};
 ghost use Rattle.certificate.specs.Bounds.{IsStiff, AreStiff};
 
 use crate::makers::{counted, one_node};
-use certificate::{EncloseFault, enclose};
+use certificate::{EncloseFault, Enclosure, enclose};
 use flex_interval::{Iv, point};
 use member_set::{Built, Law, Member};
 use std::alloc::{AllocError, Global};
+use std::process::Abort;
 use std::test::Fail;
 
 const LAWS: [Law; 6] = [Law::Linear {
@@ -52,34 +53,43 @@ fn held_node(alloc: Global, kappa: Iv) -> Result<Built, AllocError>
     one_node(alloc, anchors(alloc, kappa)?, counted(alloc, 0, 6)?)
 }
 
-fn are_ends(intervals: &[Iv], ends: &[(i128, i128)]) -> bool {
-    if intervals.len() != ends.len() {
-        return false;
+// Displacements are at most 2^60 in size.
+fn check_moderate(rt: &impl Abort, u: &[i128])
+    ensures { IsModerate u.now }
+{
+    for z in u {
+        assert!(rt; is_moderate(*z));
     }
-    for k in 0..ends.len() {
-        let e = intervals[k];
-        if (e.lo, e.hi) != ends[k] {
-            return false;
-        }
-    }
-    true
 }
 
-// Whether there are no bounds where only the first freedom has a load and a displacement.
-fn is_wide(alloc: Global, kappa: Iv, load: i128, u: i128, lambda: i128) -> Result<bool, AllocError>
-    requires stiff { IsStiff kappa }
-    requires load { unsigned_abs load < 2 ^ 126 }
-    requires moderate { unsigned_abs u ≤ 2 ^ 60 }
-    requires positive { pos 1 ≤ℤ lambda }
+fn is_moderate(z: i128) -> bool
+    ensures { IsTrue result → unsigned_abs z ≤ 2 ^ 60 }
 {
+    z.unsigned_abs() <= 1 << 60
+}
+
+// The bounds around displacements of the node.
+fn enclosed(
+    rt: &impl Abort,
+    alloc: Global,
+    kappa: Iv,
+    loads: &[Iv],
+    u: &[i128],
+    lambda: i128,
+) -> Result<Enclosure, EncloseFault> {
+    assert!(rt; kappa.lo >= 1 && kappa.hi < 1 << 61 && lambda >= 1);
+    assert!(rt; loads.len() == 6 && u.len() == 6);
+    check_moderate(rt, u);
     let structure = held_node(alloc, kappa)?;
-    let mut loads = [point(0); 6];
-    loads[0] = point(load);
-    let u = [u, 0, 0, 0, 0, 0];
-    match enclose(alloc, &structure, &LAWS, &loads, &u, lambda) {
-        Ok(_) => Ok(false),
-        Err(EncloseFault::Wide) => Ok(true),
-        Err(EncloseFault::NoMemory) => Err(AllocError),
+    enclose(alloc, &structure, &LAWS, loads, u, lambda)
+}
+
+// The intervals have these ends.
+fn check_ends(rt: &impl Abort, intervals: &[Iv], ends: &[(i128, i128)]) {
+    assert_eq!(rt; intervals.len(), ends.len());
+    for k in 0..ends.len() {
+        let e = intervals[k];
+        assert_eq!(rt; (e.lo, e.hi), ends[k], "at {k}");
     }
 }
 
@@ -92,7 +102,6 @@ fn around_a_node(rt: HostRuntime) -> Result<(), Fail> {
         lo: 3_145_727,
         hi: 3_145_728,
     };
-    let structure = held_node(rt.alloc(), kappa)?;
     let loads = [
         point(15_728_642),
         point(-12),
@@ -102,52 +111,62 @@ fn around_a_node(rt: HostRuntime) -> Result<(), Fail> {
         point(1),
     ];
     let u = [5 << 36, 0, -(1 << 36), 0, 0, 7];
-    let answer = enclose(rt.alloc(), &structure, &LAWS, &loads, &u, 1000)?;
-    let displacements = [
-        (337_687_508_680, 349_507_258_680),
-        (-5_909_875_000, 5_909_875_000),
-        (-74_629_351_736, -62_809_601_736),
-        (-5_909_875_000, 5_909_875_000),
-        (-5_909_875_000, 5_909_875_000),
-        (-5_909_874_993, 5_909_875_007),
-    ];
-    let forces = [
-        (15_723_811, 15_733_464),
-        (-4824, 4824),
-        (-3_150_552, -3_140_903),
-        (-4824, 4824),
-        (-4824, 4824),
-        (-4824, 4825),
-    ];
-    assert!(rt; are_ends(answer.u.as_slice(), &displacements));
-    assert!(rt; are_ends(answer.force.as_slice(), &forces));
-    assert_eq!(rt; answer.closed.as_slice().len(), 0);
+    let answer = enclosed(&rt, rt.alloc(), kappa, &loads, &u, 1000)?;
+    check_ends(
+        &rt,
+        answer.u.as_slice(),
+        &[
+            (337_687_508_680, 349_507_258_680),
+            (-5_909_875_000, 5_909_875_000),
+            (-74_629_351_736, -62_809_601_736),
+            (-5_909_875_000, 5_909_875_000),
+            (-5_909_875_000, 5_909_875_000),
+            (-5_909_874_993, 5_909_875_007),
+        ],
+    );
+    check_ends(
+        &rt,
+        answer.force.as_slice(),
+        &[
+            (15_723_811, 15_733_464),
+            (-4824, 4824),
+            (-3_150_552, -3_140_903),
+            (-4824, 4824),
+            (-4824, 4824),
+            (-4824, 4825),
+        ],
+    );
+    assert!(rt; answer.closed.as_slice().is_empty());
     Ok(())
 }
 
-// At each limit, and one below it: the forces, the sum of squares, the radius of the displacements, that of the forces.
+// At each limit, and one below it: the forces, the sum of squares, the radius of the displacements, that of the forces. The
+// first freedom alone has a load and a displacement.
 #[test]
-fn limits(rt: HostRuntime) -> Result<(), Fail> {
+fn limits(rt: HostRuntime) {
     let soft = point(3 << 20);
     let stiff = point(1 << 60);
-    let rows = [
+    for (kappa, load, u, lambda, wide) in [
         (
-            is_wide(rt.alloc(), stiff, (1 << 66) - (1 << 24), (1 << 42) - 1, 1)?,
+            stiff,
+            point((1 << 66) - (1 << 24)),
+            (1 << 42) - 1,
+            1,
             false,
         ),
-        (is_wide(rt.alloc(), stiff, 1 << 66, 1 << 42, 1)?, true),
-        (is_wide(rt.alloc(), soft, (1 << 63) - 1, 0, 1 << 40)?, false),
-        (is_wide(rt.alloc(), soft, 1 << 63, 0, 1 << 40)?, true),
-        (is_wide(rt.alloc(), soft, (1 << 24) - 1, 0, 1)?, false),
-        (is_wide(rt.alloc(), soft, 1 << 24, 0, 1)?, true),
-        (
-            is_wide(rt.alloc(), stiff, (1 << 40) - 1, 0, 1 << 20)?,
-            false,
-        ),
-        (is_wide(rt.alloc(), stiff, 1 << 40, 0, 1 << 20)?, true),
-    ];
-    for (answer, expected) in rows {
-        assert_eq!(rt; answer, expected);
+        (stiff, point(1 << 66), 1 << 42, 1, true),
+        (soft, point((1 << 63) - 1), 0, 1 << 40, false),
+        (soft, point(1 << 63), 0, 1 << 40, true),
+        (soft, point((1 << 24) - 1), 0, 1, false),
+        (soft, point(1 << 24), 0, 1, true),
+        (stiff, point((1 << 40) - 1), 0, 1 << 20, false),
+        (stiff, point(1 << 40), 0, 1 << 20, true),
+    ] {
+        let mut loads = [point(0); 6];
+        loads[0] = load;
+        let u = [u, 0, 0, 0, 0, 0];
+        let fault = enclosed(&rt, rt.alloc(), kappa, &loads, &u, lambda).err();
+        let want = if wide { Some(EncloseFault::Wide) } else { None };
+        assert_eq!(rt; fault, want, "a load of {} and more", load.lo);
     }
-    Ok(())
 }

@@ -2,7 +2,7 @@
 ghost use Rattle.std.specs.Prelude.{◌≡◌, ◌≤◌, IfOk};
 ghost use Rattle.sym_blocks.specs.Matrix.{node_count};
 
-use crate::makers::{chain_factor, chain_matrix, check_entries, put};
+use crate::makers::{add, chain_factor, chain_matrix, check_entries};
 use certificate::{CheckSpace, Verdict, check_definite};
 use factor_data::NoMemory;
 use std::alloc::Global;
@@ -23,7 +23,7 @@ fn diagonal(
     let mut matrix = chain_matrix(alloc, nodes)?;
     for row in 0..6 * nodes {
         let value = values[(row % 6) as usize];
-        put(rt, &mut matrix, row, row, i128::from(value));
+        add(rt, &mut matrix, row, row, i128::from(value));
     }
     Ok(matrix)
 }

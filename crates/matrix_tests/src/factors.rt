@@ -3,7 +3,7 @@ ghost use Rattle.std.specs.Prelude.{◌≡◌, ◌^◌, ◌≤◌, IfOk, length}
 ghost use Rattle.sym_blocks.specs.Matrix.{node_count};
 ghost use Rattle.factor.specs.State.{AreParents};
 
-use crate::makers::{chain_matrix, chain_order, check_entries, put};
+use crate::makers::{add, chain_matrix, chain_order, check_entries};
 use factor::{ScalarFault, scalar};
 use factor_data::Factor;
 use std::alloc::{AllocError, Global};
@@ -69,7 +69,7 @@ fn by_hand(rt: HostRuntime) -> Result<(), Fail> {
         (4, 4, 1),
         (5, 5, 1),
     ] {
-        put(&rt, &mut matrix, row, col, v);
+        add(&rt, &mut matrix, row, col, v);
     }
     let factor = factorised(&rt, rt.alloc(), &matrix, 1, 0)?;
     for (row, col, want) in [
@@ -81,7 +81,7 @@ fn by_hand(rt: HostRuntime) -> Result<(), Fail> {
     ] {
         assert_eq!(rt; factor.get(row, col), want, "at {row} {col}");
     }
-    put(&rt, &mut matrix, 2, 2, -1);
+    add(&rt, &mut matrix, 2, 2, -2);
     breaks_down(&rt, rt.alloc(), &matrix, 0, 2);
     Ok(())
 }
@@ -91,7 +91,7 @@ fn by_hand(rt: HostRuntime) -> Result<(), Fail> {
 fn largest_stiffness(rt: HostRuntime) -> Result<(), Fail> {
     let mut largest = chain_matrix(rt.alloc(), 1)?;
     for freedom in 0..6 {
-        put(&rt, &mut largest, freedom, freedom, (1 << 60) - 1);
+        add(&rt, &mut largest, freedom, freedom, (1 << 60) - 1);
     }
     let factor = factorised(&rt, rt.alloc(), &largest, 1, 0)?;
     assert_eq!(rt; factor.get(3, 3), (1 << 56) - 1);
@@ -113,10 +113,10 @@ fn without_stiffness(rt: HostRuntime) -> Result<(), Fail> {
 fn chain(rt: HostRuntime) -> Result<(), Fail> {
     let mut matrix = chain_matrix(rt.alloc(), 200)?;
     for row in 0..6 * 200 {
-        put(&rt, &mut matrix, row, row, 4 << 20);
+        add(&rt, &mut matrix, row, row, 4 << 20);
     }
     for row in 0..6 * 199 {
-        put(&rt, &mut matrix, row + 6, row, -(1 << 20));
+        add(&rt, &mut matrix, row + 6, row, -(1 << 20));
     }
     let factor = factorised(&rt, rt.alloc(), &matrix, 200, 1 << 10)?;
     assert_eq!(rt; factor.get(0, 0), 137_422_175_231);

@@ -1,6 +1,6 @@
 //! Chains of nodes, each joined with the next: matrices, orders and factors. What the calls under test require of a matrix is
 //! tested here, entry by entry. A structure of one node too.
-ghost use Rattle.std.specs.Prelude.{◌≡◌, [], ◌∷◌, ℕ, ◌+◌, ◌-◌, ◌*◌, ◌<◌, ◌≤◌, ◌/◌, length, slice_index, IfOk, IsTrue};
+ghost use Rattle.std.specs.Prelude.{◌≡◌, [], ◌∷◌, ℕ, ◌+◌, ◌-◌, ◌*◌, ◌/◌, ◌^◌, ◌<◌, ◌≤◌, ◌+ℤ◌, unsigned_abs, length, slice_index, IfOk, IsTrue};
 ghost use Rattle.sym_blocks.specs.Matrix.{HasBlock, entry, node_count};
 ghost use Rattle.factor_data.specs.Order.{IsOrder};
 ghost use Rattle.matrix_tests.specs.Entries.{AreEntries, IsEntry};
@@ -23,14 +23,19 @@ pub(crate) fn chain_matrix(alloc: Global, nodes: u32) -> Result<SymBlocks, NoMem
     SymBlocks::new(alloc, nodes, &pairs)
 }
 
-// Makes an entry and its mirror `v`.
-pub(crate) fn put(rt: &impl Abort, matrix: &mut SymBlocks, row: u32, col: u32, v: i128)
+// Adds to an entry of the pattern, and to its mirror.
+pub(crate) fn add(rt: &impl Abort, matrix: &mut SymBlocks, row: u32, col: u32, v: i128)
     ensures { node_count matrix.new ≡ node_count matrix.old }
 {
-    find_rising(matrix.pattern(row / 6), col / 6).expect(rt, "a block");
-    let was = matrix.get(row, col);
-    assert!(rt; is_entry(was, true) && is_entry(v, true));
-    matrix.add(row, col, v - was);
+    assert!(rt; find_rising(matrix.pattern(row / 6), col / 6).is_some());
+    assert!(rt; is_small_sum(matrix.get(row, col), v));
+    matrix.add(row, col, v);
+}
+
+fn is_small_sum(was: i128, v: i128) -> bool
+    ensures { IsTrue result → unsigned_abs (was +ℤ v) < 2 ^ 126 }
+{
+    was.unsigned_abs() < 1 << 60 && v.unsigned_abs() < 1 << 60
 }
 
 // Whether a number is an entry that may be tested: of any sign, or not below 0.
@@ -89,7 +94,8 @@ pub(crate) fn chain_order(alloc: Global, nodes: u32) -> Result<Vec<u32>, AllocEr
     ensures count { IfOk result (λ v. length v.items ≡ nodes) }
     ensures order { IfOk result (λ v. IsOrder v.items) }
 {
-    counted(alloc, 0, nodes)
+    let order = counted(alloc, 0, nodes)?;
+    Ok(order)
 }
 
 // A value at the diagonal, and others below it.

@@ -1,7 +1,7 @@
 //! Models of text, and what the calls under test require of them.
-ghost use Rattle.std.specs.Prelude.{◌<◌, length};
+ghost use Rattle.std.specs.Prelude.{◌<◌, IsTrue, length};
 ghost use Rattle.load_vectors.specs.Loads.{HasForcesAlone, case_at};
-ghost use Rattle.structure.specs.Anchors.{HasAnchorsAlone};
+ghost use Rattle.structure.specs.Anchors.{HasAnchorsAlone, IsAnchor};
 
 use model_text::read;
 use model_types::{Model, RestraintKind};
@@ -25,8 +25,14 @@ pub(crate) fn check_anchors(rt: &impl Abort, m: &Model)
     ensures { HasAnchorsAlone m.now }
 {
     for restraint in m.restraints() {
-        assert!(rt; matches!(restraint.kind, RestraintKind::Anchor { .. }));
+        assert!(rt; is_anchor(restraint.kind));
     }
+}
+
+fn is_anchor(kind: RestraintKind) -> bool
+    ensures { IsTrue result → IsAnchor kind }
+{
+    matches!(kind, RestraintKind::Anchor { .. })
 }
 
 // Nothing but forces acts in the case.

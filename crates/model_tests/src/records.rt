@@ -136,25 +136,33 @@ fn takes_a_model(rt: HostRuntime) {
     accept(&rt, &mut draft, rest(&rt));
     accept(&rt, &mut draft, force(0, 1));
     assert_eq!(rt; draft.count(Space::Node), 2);
-    assert_eq!(rt; draft.find(Space::Node, &name(&rt, "b")), Some(1));
-    assert_eq!(rt; draft.find(Space::Node, &name(&rt, "p")), None);
-    assert_eq!(rt; draft.find(Space::Element, &name(&rt, "p")), Some(0));
+    for (space, text, number) in [
+        (Space::Node, "b", Some(1)),
+        (Space::Node, "p", None),
+        (Space::Element, "p", Some(0)),
+    ] {
+        assert_eq!(rt; draft.find(space, &name(&rt, text)), number, "{text}");
+    }
     counts(&rt, &draft.finish().expect(&rt, "a model"));
 }
 
-// The base model has these records.
+// The base model has so many records of each kind, and no tees, temperatures, pressures, movements and checks.
 fn counts(rt: &impl Abort, model: &Model) {
-    assert_eq!(rt; model.materials().len(), 1);
-    assert_eq!(rt; model.sections().len(), 1);
-    assert_eq!(rt; model.nodes().len(), 2);
-    assert_eq!(rt; model.elements().len(), 1);
-    assert_eq!(rt; model.restraints().len(), 1);
-    assert_eq!(rt; model.cases().len(), 1);
-    assert_eq!(rt; model.forces().len(), 1);
-    assert!(rt;
-        model.tees().is_empty() && model.temps().is_empty() && model.pressures().is_empty()
-    );
-    assert!(rt; model.moves().is_empty() && model.checks().is_empty());
+    let found = [
+        model.materials().len(),
+        model.sections().len(),
+        model.nodes().len(),
+        model.elements().len(),
+        model.restraints().len(),
+        model.cases().len(),
+        model.forces().len(),
+        model.tees().len(),
+        model.temps().len(),
+        model.pressures().len(),
+        model.moves().len(),
+        model.checks().len(),
+    ];
+    assert_eq!(rt; found, [1, 1, 2, 1, 1, 1, 1, 0, 0, 0, 0, 0]);
 }
 
 #[test]
@@ -200,8 +208,7 @@ fn accept_node(rt: &impl Abort, alloc: Global, draft: &mut Draft, number: u32) {
 #[test]
 fn keeps_values(rt: HostRuntime) -> Result<(), Fail> {
     let values = Values::new([3, 4].to_vec(rt.alloc())?);
-    assert!(rt; !values.is_empty());
-    assert_eq!(rt; values.len(), 2);
+    assert!(rt; values.len() == 2 && !values.is_empty());
     assert_eq!(rt; values.as_slice(), [3, 4].as_slice());
     assert_eq!(rt; values.into_vec().as_slice(), [3, 4].as_slice());
     Ok(())

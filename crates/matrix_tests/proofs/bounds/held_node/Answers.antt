@@ -1,11 +1,12 @@
-use Rattle.std.proofs.Common.{◌≡◌, ℕ, zero, suc, ◌<◌, inl, ◌∙◌, sym, ap, subst, arith, List, [], ◌∷◌, ◌++◌, length, slice_index, get_or}
+use Rattle.std.proofs.Common.{◌≡◌, ℕ, zero, suc, ◌<◌, inl, ◌∙◌, sym, ap, subst, arith, refl, List, [], ◌∷◌, ◌++◌, length, slice_index, get_or}
+use Rattle.std.proofs.lemmas.Result.{IfOk-weaker}
 use Rattle.std.specs.Prelude.{All, AllPairs, Contains, ◌↔◌}
 use Rattle.std.proofs.lemmas.Grind.{get_or_default_zero}
 use Rattle.flex_interval.specs.Ends.{Ends}
 use Rattle.member_set.specs.declared.members.Member.{Member}
 use Rattle.member_set.specs.declared.members.Built.{Built}
 use Rattle.member_set.specs.Members.{no_member, Touches, member_of, IsBuilt}
-use Rattle.certificate.specs.Bounds.{IsStiff}
+use Rattle.certificate.specs.Bounds.{IsStiff, AreStiff}
 use Rattle.matrix_tests.proofs.bounds.held_node.Goals as goal
 
 -- the numbers from 0 on, at the only node
@@ -42,14 +43,17 @@ one_node b kappa numbers at_is as_many count at_node =
 
 pub returns-clause-built : goal.returns-clause-built
 returns-clause-built c =
-    let numbers = c.in_ok-numbers.field-0.items in
-    let pushed : c.push.new.self.items ≡ c.new.result ∷ [] = c.in_ok-push.ensures.items ∙ ap (λ (xs : List (List ℕ)). xs ++ (c.new.result ∷ [])) c.new-at.ensures.items in
-    let at_is : c.new-7.result ≡ numbers ∷ [] = c.new-7.ensures ∙ pushed ∙ ap (λ (xs : List ℕ). xs ∷ []) c.new.ensures in
-    let six : length c.new-2.result ≡ 6 = rw c.new-2.ensures c.in_ok-members.ensures.six in
-    let all : All (λ m. (m.n1 ≡ 0) × (m.n2 ≡ 0) × (m.kappa ≡ c.args.kappa)) c.new-2.result = rw c.new-2.ensures c.in_ok-members.ensures.anchors in
-    one_node _ c.args.kappa numbers at_is (omega (arith, six, c.in_ok-numbers.ensures.0)) (λ k below. c.in_ok-numbers.ensures.1 k (omega (arith, six))) all
+    let six = c.in_ok-anchors.ensures.six in
+    let P : Built → Type 0 = λ b. IsBuilt b in
+    IfOk-weaker c.one_node.result _ IsBuilt
+    (λ b is.
+      subst P (sym is) (one_node _ c.args.kappa c.in_ok-counted.field-0.items refl
+      (omega (arith, six, c.in_ok-counted.ensures.0)) (λ k below. omega (arith, c.in_ok-counted.ensures.1 k (omega (arith, six)))) c.in_ok-anchors.ensures.anchors))
+    c.one_node.ensures
 
 pub returns-clause-stiff : goal.returns-clause-stiff
-returns-clause-stiff c = λ k inside.
-    let all : All (λ m. (m.n1 ≡ 0) × (m.n2 ≡ 0) × (m.kappa ≡ c.args.kappa)) c.new-2.result = rw c.new-2.ensures c.in_ok-members.ensures.anchors in
-    subst (λ (e : Ends). IsStiff e) (sym (all k no_member inside).2) c.requires
+returns-clause-stiff c =
+    let P : Built → Type 0 = λ b. AreStiff b in
+    IfOk-weaker c.one_node.result _ AreStiff
+    (λ b is. subst P (sym is) (λ k inside. subst (λ (e : Ends). IsStiff e) (sym (c.in_ok-anchors.ensures.anchors k no_member inside).2) c.requires))
+    c.one_node.ensures

@@ -7,16 +7,6 @@ use Rattle.factor_data.specs.Order.{IsOrder}
 use Rattle.factor_data.specs.Columns.{columns_of, IsFactor, contents}
 use Rattle.matrix_tests.proofs.makers.chain_factor.Goals as goal
 
-chain-order : (order : List ℕ) (nodes : ℕ) → length order ≡ nodes → ((k : ℕ) → k < nodes → slice_index order k ≡ 0 + k) → IsOrder order
-chain-order order nodes size at =
-    record {
-      spread = record {
-        in_range = λ k h. omega (arith, at k (omega (arith, size)), size);
-        apart = λ k l pk pl e. omega (arith, at k (omega (arith, size)), at l (omega (arith, size)), e);
-      };
-      complete = λ node h. (node, h, get_or_default order node node 0 h ∙ (omega (arith, at node (omega (arith, size)))));
-    }
-
 counted-rising : (rows : List ℕ) (from : ℕ) → ((s : ℕ) → s < length rows → slice_index rows s ≡ from + s) → IsRising rows
 counted-rising rows from at i j d less inside =
     omega (arith, at i (omega arith), at j inside, get_or_default rows i d 0 (omega arith), get_or_default rows j d 0 inside)
@@ -53,8 +43,8 @@ of_parts-requires c =
     let nodes = c.args.nodes in
     let done = c.loop-position.invariant in
     let all : c.loop-position.position ≡ 6 * c.args.nodes = omega (arith, c.loop-position.auto.position-end) in
-    let size : length c.in_ok-order.order.items ≡ c.args.nodes = omega (arith, c.in_ok-order.ensures.0) in
-    let ordered = chain-order c.in_ok-order.order.items c.args.nodes size (λ k h. c.in_ok-order.ensures.1 k (omega arith)) in
+    let size : length c.in_ok-order.order.items ≡ c.args.nodes = omega (arith, c.in_ok-order.ensures.count) in
+    let ordered = c.in_ok-order.ensures.order in
     chain c.in_ok-order.order.items (contents c.loop-position.rows.items) (contents c.loop-position.values.items) c.args.nodes ordered size (done.rows_length ∙ all) (done.values_length ∙ all)
     (λ k h. done.aligned k (omega (arith, all))) (λ k h. done.below k (omega (arith, all))) (λ k h. done.rows k (omega (arith, all)))
 
