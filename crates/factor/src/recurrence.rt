@@ -1,8 +1,8 @@
-ghost use Rattle.std.specs.Prelude.{◌≡◌, ℕ, ◌+◌, ◌*◌, ◌/◌, ◌^◌, ◌<◌, ◌≤◌, All, Contains, IfOk, OnOk, MatchResult, length, replicate, slice_index, [], pos, ◌≤ℤ◌};
+ghost use Rattle.std.specs.Prelude.{◌≡◌, ℕ, ◌*◌, ◌^◌, ◌<◌, ◌≤◌, All, IfOk, OnOk, MatchResult, length, replicate, slice_index, [], pos, ◌≤ℤ◌};
 ghost use Rattle.std.specs.Int.RustNames.{unsigned_abs};
 ghost use Rattle.rising_list.specs.Rising.{IsRising};
 ghost use Rattle.rising_list.specs.Lists.{contents, list_of};
-ghost use Rattle.sym_blocks.specs.Matrix.{node_count, HasBlock, entry};
+ghost use Rattle.sym_blocks.specs.Matrix.{node_count, entry};
 ghost use Rattle.factor_data.specs.Order.{IsOrder};
 ghost use Rattle.factor.specs.State.{AreParents, matrix_of};
 ghost use Rattle.factor.specs.Columns.{ListsInAll, ArePanelShapes, HasColumns, AreColumnRows, AreColumnValues};

@@ -1,5 +1,5 @@
 //! One node without members, whose residual is its load whatever its displacements: each turn adds the same.
-ghost use Rattle.std.specs.Prelude.{◌≡◌, [], ◌∷◌, ℕ, pos, ◌<◌, ◌<ℤ◌, IfOk};
+ghost use Rattle.std.specs.Prelude.{ℕ, pos, ◌<◌, ◌<ℤ◌};
 ghost use Rattle.factor_data.specs.Columns.{entry};
 
 use crate::makers::{chain_factor, one_node};

@@ -1,11 +1,11 @@
 //! A cantilever of 1 m: at rest, with a load at its tip, with a load that is too large, and on an anchor that is too stiff.
-ghost use Rattle.std.specs.Prelude.{◌≡◌, length};
+ghost use Rattle.std.specs.Prelude.{◌≡◌, ◌<◌, length};
 ghost use Rattle.factor.specs.State.{AreParents};
 ghost use Rattle.factor_data.specs.Order.{IsOrder};
 
-use crate::makers::{check_anchors, check_forces, model};
+use crate::makers::{check_all_forces, check_anchors, model};
 use case_run::answers;
-use model_types::{Bounds, CaseAnswer, Cause, NodeId};
+use model_types::{Bounds, CaseAnswer, Cause, Model, NodeId};
 use std::alloc::Global;
 use std::process::Abort;
 
@@ -24,25 +24,23 @@ fn parents() -> [Option<u32>; 2]
     [Some(1), None]
 }
 
-// The answers of a straight along the x axis from its anchor: at rest, with 1000 N down at its tip, and with 10^9 N up there.
-fn answers_of(rt: &impl Abort, alloc: Global, stiffness: &str) -> Vec<CaseAnswer> {
-    let lines = format!(in alloc; "node a 0 0 0
+// A straight along the x axis from its anchor, at rest, with 1000 N down at its tip, and with 10^9 N up there.
+const CANTILEVER: &str = "node a 0 0 0
 node b 1000000 0 0
 straight p a b s
-anchor A a {stiffness} -
 case rest 0 0 0 0 0 0
 case tip 0 0 0 0 0 0
 case great 0 0 0 0 0 0
 force tip b 0 0 -1000000 0 0 0
 force great b 0 0 1000000000000 0 0 0
-").expect(rt, "memory");
-    let m = model(rt, alloc, &lines);
+";
+
+// The answers of a model of two nodes.
+fn answers_of(rt: &impl Abort, alloc: Global, m: &Model) -> Vec<CaseAnswer> {
     assert!(rt; m.nodes().len() == 2);
-    check_anchors(rt, &m);
-    for case in 0..m.cases().len() {
-        check_forces(rt, &m, case);
-    }
-    answers(alloc, &m, &order(), &parents()).expect(rt, "memory")
+    check_anchors(rt, m);
+    check_all_forces(rt, m);
+    answers(alloc, m, &order(), &parents()).expect(rt, "memory")
 }
 
 // 10^9 nm are a m, and 10^3 mN are a N.
@@ -108,7 +106,8 @@ const AROUND: (i128, i128) = (-1, 1);
 // The tip sinks by 575 micrometres and turns by 863 microradians; its anchor gives way by a ten-millionth.
 #[test]
 fn tip(rt: HostRuntime) {
-    let found = answers_of(&rt, rt.alloc(), "-");
+    let m = model(&rt, rt.alloc(), &[CANTILEVER, "anchor A a - -\n"]);
+    let found = answers_of(&rt, rt.alloc(), &m);
     assert!(rt; found.len() == 3);
     is_bounded(&rt, &found[0], &[(0, 0); 12], &[(0, 0); 6]);
     is_bounded(
@@ -147,7 +146,8 @@ fn tip(rt: HostRuntime) {
 // The row of a stiffness of 2 * 10^12 N/m is wide in every case.
 #[test]
 fn stiff_anchor(rt: HostRuntime) {
-    let found = answers_of(&rt, rt.alloc(), "2000000000000");
+    let m = model(&rt, rt.alloc(), &[CANTILEVER, "anchor A a 2000000000000 -\n"]);
+    let found = answers_of(&rt, rt.alloc(), &m);
     assert_eq!(rt; found.len(), 3);
     let cause = Cause::WidthMatrix {
         node: NodeId(0),

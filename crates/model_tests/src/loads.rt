@@ -21,7 +21,7 @@ force small b 0 0 0 0 -2000 0
 ";
 
 fn loads_of(rt: &impl Abort, alloc: Global, case: u32) -> Result<Vec<Iv>, LoadFault> {
-    let m = model(rt, alloc, FORCES);
+    let m = model(rt, alloc, &[FORCES]);
     check_forces(rt, &m, case as usize);
     loads(alloc, &m, CaseId(case))
 }

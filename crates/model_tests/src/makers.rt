@@ -1,5 +1,5 @@
 //! Models of text, and what the calls under test require of them.
-ghost use Rattle.std.specs.Prelude.{◌<◌, IsTrue, length};
+ghost use Rattle.std.specs.Prelude.{ℕ, ◌<◌, IsTrue, length};
 ghost use Rattle.load_vectors.specs.Loads.{HasForcesAlone, case_at};
 ghost use Rattle.structure.specs.Anchors.{HasAnchorsAlone, IsAnchor};
 
@@ -15,8 +15,11 @@ section s st 100000 10000 0 0
 ";
 
 // The model of a tube and of further lines.
-pub(crate) fn model(rt: &impl Abort, alloc: Global, lines: &str) -> Model {
-    let text = format!(in alloc; "{TUBE}{lines}").expect(rt, "memory");
+pub(crate) fn model(rt: &impl Abort, alloc: Global, lines: &[&str]) -> Model {
+    let mut text = TUBE.to_string(alloc).expect(rt, "memory");
+    for line in lines {
+        text.push_str(line).expect(rt, "memory");
+    }
     read(alloc, text.as_bytes()).expect(rt, "a model")
 }
 
@@ -45,4 +48,13 @@ pub(crate) fn check_forces(rt: &impl Abort, m: &Model, case: usize)
     let c = &cases[case];
     assert!(rt; c.gx == 0 && c.gy == 0 && c.gz == 0);
     assert!(rt; !c.hangers && c.dt == 0 && c.p == 0);
+}
+
+// Nothing but forces acts in any case.
+pub(crate) fn check_all_forces(rt: &impl Abort, m: &Model)
+    ensures { (case : ℕ) → case < length m.now.cases → HasForcesAlone (case_at m.now case) }
+{
+    for case in 0..m.cases().len() {
+        check_forces(rt, m, case);
+    }
 }

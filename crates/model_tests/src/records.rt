@@ -114,27 +114,28 @@ fn accept(rt: &impl Abort, draft: &mut Draft, candidate: Record)
     assert_eq!(rt; draft.add(candidate, NO_SINE), Ok(()));
 }
 
-// The draft refuses the record by that number.
-fn refuse(rt: &impl Abort, draft: &mut Draft, candidate: Record, number: u8)
-    requires { InForm candidate }
+// The records of the base model.
+fn base(rt: &impl Abort, number: u32) -> Record
+    ensures { InForm result }
 {
-    assert_eq!(rt;
-        draft.add(candidate, NO_SINE),
-        Err(AddFault::Refused(number))
-    );
+    match number {
+        0 => steel(rt),
+        1 => section(rt, 0, 10_000),
+        2 => node(rt, "a", 0),
+        3 => node(rt, "b", 30_000_000),
+        4 => straight(rt, 0, 1),
+        5 => anchor(rt, 0),
+        6 => rest(rt),
+        _ => force(0, 1),
+    }
 }
 
 #[test]
 fn takes_a_model(rt: HostRuntime) {
     let mut draft = Draft::new(rt.alloc()).expect(&rt, "memory");
-    accept(&rt, &mut draft, steel(&rt));
-    accept(&rt, &mut draft, section(&rt, 0, 10_000));
-    accept(&rt, &mut draft, node(&rt, "a", 0));
-    accept(&rt, &mut draft, node(&rt, "b", 30_000_000));
-    accept(&rt, &mut draft, straight(&rt, 0, 1));
-    accept(&rt, &mut draft, anchor(&rt, 0));
-    accept(&rt, &mut draft, rest(&rt));
-    accept(&rt, &mut draft, force(0, 1));
+    for number in 0..8 {
+        accept(&rt, &mut draft, base(&rt, number));
+    }
     assert_eq!(rt; draft.count(Space::Node), 2);
     for (space, text, number) in [
         (Space::Node, "b", Some(1)),
@@ -165,21 +166,56 @@ fn counts(rt: &impl Abort, model: &Model) {
     assert_eq!(rt; found, [1, 1, 2, 1, 1, 1, 1, 0, 0, 0, 0, 0]);
 }
 
+// The number that refuses the record, or nothing where the draft takes it.
+fn refusal_of(rt: &impl Abort, draft: &mut Draft, candidate: Record) -> Option<u8>
+    requires { InForm candidate }
+{
+    match draft.add(candidate, NO_SINE) {
+        Ok(()) => None,
+        Err(AddFault::Refused(number)) => Some(number),
+        Err(AddFault::NoMemory) => panic!(rt; "no memory"),
+    }
+}
+
+// Records that are taken or refused one after another.
+fn judged(rt: &impl Abort, number: u32) -> Record
+    ensures { InForm result }
+{
+    match number {
+        0 | 1 => steel(rt),
+        2 => section(rt, 0, 50_000),
+        3 => section(rt, u32::MAX, 50_000),
+        4 => section(rt, 0, 10_000),
+        5 => node(rt, "a", 0),
+        6 => node(rt, "b", 30_000_001),
+        7 => node(rt, "c", 0),
+        8 => straight(rt, 0, u32::MAX),
+        9 => straight(rt, 0, 2),
+        10 => straight(rt, 0, 1),
+        _ => force(u32::MAX, 0),
+    }
+}
+
 #[test]
 fn refuses_by_number(rt: HostRuntime) {
     let mut draft = Draft::new(rt.alloc()).expect(&rt, "memory");
-    accept(&rt, &mut draft, steel(&rt));
-    refuse(&rt, &mut draft, steel(&rt), 8);
-    refuse(&rt, &mut draft, section(&rt, 0, 50_000), 13);
-    refuse(&rt, &mut draft, section(&rt, u32::MAX, 50_000), 9);
-    accept(&rt, &mut draft, section(&rt, 0, 10_000));
-    accept(&rt, &mut draft, node(&rt, "a", 0));
-    accept(&rt, &mut draft, node(&rt, "b", 30_000_001));
-    accept(&rt, &mut draft, node(&rt, "c", 0));
-    refuse(&rt, &mut draft, straight(&rt, 0, u32::MAX), 9);
-    refuse(&rt, &mut draft, straight(&rt, 0, 2), 10);
-    refuse(&rt, &mut draft, straight(&rt, 0, 1), 11);
-    refuse(&rt, &mut draft, force(u32::MAX, 0), 9);
+    for (number, refusal) in [
+        (0, None),
+        (1, Some(8)),
+        (2, Some(13)),
+        (3, Some(9)),
+        (4, None),
+        (5, None),
+        (6, None),
+        (7, None),
+        (8, Some(9)),
+        (9, Some(10)),
+        (10, Some(11)),
+        (11, Some(9)),
+    ] {
+        let found = refusal_of(&rt, &mut draft, judged(&rt, number));
+        assert_eq!(rt; found, refusal, "record {number}");
+    }
 }
 
 #[test]
@@ -195,8 +231,10 @@ fn fills_up(rt: HostRuntime) {
         accept_node(&rt, rt.alloc(), &mut draft, i);
     }
     assert_eq!(rt; draft.find(Space::Node, &name(&rt, "n1234")), Some(1234));
-    refuse(&rt, &mut draft, node(&rt, "one-more", 0), 14);
-    refuse(&rt, &mut draft, node(&rt, "n7", 0), 8);
+    for (text, number) in [("one-more", 14), ("n7", 8)] {
+        let found = refusal_of(&rt, &mut draft, node(&rt, text, 0));
+        assert_eq!(rt; found, Some(number), "{text}");
+    }
 }
 
 // The draft takes a node whose name is made of its number.

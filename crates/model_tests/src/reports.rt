@@ -1,5 +1,5 @@
 //! Whole reports, as they are worked out by hand from the mechanics of a pipe of one metre.
-ghost use Rattle.std.specs.Prelude.{◌≡◌, ◌≤◌, length, IsTrue, All};
+ghost use Rattle.std.specs.Prelude.{◌≡◌, length, IsTrue, All};
 ghost use Rattle.report.specs.Fits.{AreModest, FitsModel, IsCauseIn, IsGuess, IsModest, loads_count};
 
 use crate::makers::model;
@@ -13,15 +13,10 @@ use std::test::Fail;
 
 const NOTHING: Bounds = Bounds { lo: 0, hi: 0 };
 
-// A pipe p of one metre to a node of that name, with an anchor A at its first node a, and further lines.
-fn pipe(rt: &impl Abort, alloc: Global, end: &str, lines: &str) -> Model {
-    let text = format!(in alloc; "node a 0 0 0
-node {end} 1000000 0 0
-straight p a {end} s
-anchor A a - -
-{lines}").expect(rt, "memory");
-    model(rt, alloc, &text)
-}
+// A pipe p of one metre, with an anchor A at its first node a.
+const TO_B: &str = "node a 0 0 0\nnode b 1000000 0 0\nstraight p a b s\nanchor A a - -\n";
+
+const TO_D: &str = "node a 0 0 0\nnode d 1000000 0 0\nstraight p a d s\nanchor A a - -\n";
 
 fn is_modest(z: i128) -> bool
     ensures { IsTrue result → IsModest z }
@@ -142,7 +137,7 @@ end
 
 #[test]
 fn a_case_at_rest(rt: HostRuntime) {
-    let m = pipe(&rt, rt.alloc(), "b", "case rest 0 0 0 0 0 0\n");
+    let m = model(&rt, rt.alloc(), &[TO_B, "case rest 0 0 0 0 0 0\n"]);
     let answer = certified(&rt, rt.alloc(), &m, &[NOTHING; 12], &[NOTHING; 6]);
     expect_report(&rt, rt.alloc(), &m, answer, AT_REST);
 }
@@ -171,7 +166,7 @@ fn about(z: i128) -> Bounds
 // the anchor gives, and turns by 1 / 2EI and the anchor's turn.
 #[test]
 fn a_case_under_a_load(rt: HostRuntime) {
-    let m = pipe(&rt, rt.alloc(), "b", "case tip 0 0 0 0 0 0\n");
+    let m = model(&rt, rt.alloc(), &[TO_B, "case tip 0 0 0 0 0 0\n"]);
     let some = about(0);
     let u = [
         some,
@@ -224,7 +219,7 @@ const CANDIDATE: [i128; 12] = [
 
 #[test]
 fn a_contact_state_that_fails(rt: HostRuntime) {
-    let m = pipe(&rt, rt.alloc(), "b", "linear S b 0 1 0 -\ncase tip 0 0 0 0 0 0\n");
+    let m = model(&rt, rt.alloc(), &[TO_B, "linear S b 0 1 0 -\ncase tip 0 0 0 0 0 0\n"]);
     let report =
         "pipeflex report 1\nmodel 2 1 2 1 0\ncase tip uncertified state S plus\nguess a 0 0 -100 0 100 0\nguess b 0 0 -575286 0 862728 0\nend\n";
     let cause = Cause::State {
@@ -237,7 +232,7 @@ fn a_contact_state_that_fails(rt: HostRuntime) {
 
 #[test]
 fn causes(rt: HostRuntime) -> Result<(), Fail> {
-    let m = pipe(&rt, rt.alloc(), "d", "linear S d 0 1 0 -\ncase rest 0 0 0 0 0 0\n");
+    let m = model(&rt, rt.alloc(), &[TO_D, "linear S d 0 1 0 -\ncase rest 0 0 0 0 0 0\n"]);
     let (a, d) = (NodeId(0), NodeId(1));
     for (cause, words) in [
         (Cause::WidthElement(ElementId(0)), "width element p"),

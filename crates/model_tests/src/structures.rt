@@ -15,8 +15,7 @@ anchor B d 5 -
 ";
 
 fn built(rt: &impl Abort, alloc: Global, nodes: &str) -> Result<Built, BuildFault> {
-    let lines = format!(in alloc; "{nodes}{PIPE}").expect(rt, "memory");
-    let m = model(rt, alloc, &lines);
+    let m = model(rt, alloc, &[nodes, PIPE]);
     check_anchors(rt, &m);
     build(alloc, &m)
 }

@@ -86,7 +86,30 @@ fn ended<R: Threads + Sync, S: Source>(
     Ok(run(rt, alloc, &line, source, out, err, &Idle))
 }
 
-// What the words and the text are answered with: the status, the output and the message.
+// How a run ended, and what it wrote.
+#[derive(Drop)]
+struct Told {
+    status: Status,
+    out: SafeSink,
+    err: SafeSink,
+}
+
+// Runs the program on words and a text, with so much room in both sinks.
+fn answered<R: Threads + Sync>(
+    rt: &R,
+    alloc: Global,
+    words: &[&str],
+    text: &str,
+    room: [usize; 2],
+) -> Result<Told, AllocError> {
+    let mut source = SafeSource::new(text.as_bytes().to_vec(alloc)?);
+    let mut out = SafeSink::new(alloc, room[0])?;
+    let mut err = SafeSink::new(alloc, room[1])?;
+    let status = ended(rt, alloc, words, &mut source, &mut out, &mut err)?;
+    Ok(Told { status, out, err })
+}
+
+// The words and the text are answered with this status, output and message.
 fn check<R: Threads + Sync + Abort>(
     rt: &R,
     alloc: Global,
@@ -96,13 +119,10 @@ fn check<R: Threads + Sync + Abort>(
     out: &str,
     err: &str,
 ) -> Result<(), Fail> {
-    let mut source = SafeSource::new(text.as_bytes().to_vec(alloc)?);
-    let mut written = SafeSink::new(alloc, out.len())?;
-    let mut told = SafeSink::new(alloc, err.len())?;
-    let found = ended(rt, alloc, words, &mut source, &mut written, &mut told)?;
-    assert_eq!(rt; found, status, "{text}");
-    assert_eq!(rt; written.bytes(), out.as_bytes(), "{text}");
-    assert_eq!(rt; told.bytes(), err.as_bytes(), "{text}");
+    let found = answered(rt, alloc, words, text, [out.len(), err.len()])?;
+    assert!(rt; found.status == status, "{text}");
+    let written = (found.out.bytes(), found.err.bytes());
+    assert!(rt; written == (out.as_bytes(), err.as_bytes()), "{text}");
     Ok(())
 }
 
@@ -152,12 +172,9 @@ fn writes_the_table(rt: HostRuntime) -> Result<(), Fail> {
         ),
     ] {
         let text = format!(in rt.alloc(); "{HEAD}{rest}")?;
-        let mut source = SafeSource::new(text.as_bytes().to_vec(rt.alloc())?);
-        let mut out = SafeSink::new(rt.alloc(), 1000)?;
-        let mut err = SafeSink::new(rt.alloc(), 0)?;
-        let status = ended(&rt, rt.alloc(), &["members"], &mut source, &mut out, &mut err)?;
-        assert_eq!(rt; status, Status::Done, "{rest}");
-        assert!(rt; out.bytes().starts_with(start.as_bytes()), "{rest}");
+        let found = answered(&rt, rt.alloc(), &["members"], &text, [1000, 0])?;
+        assert!(rt; found.status == Status::Done, "{rest}");
+        assert!(rt; found.out.bytes().starts_with(start.as_bytes()), "{rest}");
     }
     Ok(())
 }
@@ -371,12 +388,9 @@ fn refuses_a_text_over_the_limit(rt: HostRuntime) -> Result<(), Fail> {
 
 #[test]
 fn ends_at_a_fault_of_a_sink(rt: HostRuntime) -> Result<(), Fail> {
-    for (text, room_out, room_err) in [(STRAIGHT, TABLE.len() - 1, 0), ("", 0, 23)] {
-        let mut source = SafeSource::new(text.as_bytes().to_vec(rt.alloc())?);
-        let mut out = SafeSink::new(rt.alloc(), room_out)?;
-        let mut err = SafeSink::new(rt.alloc(), room_err)?;
-        let status = ended(&rt, rt.alloc(), &["members"], &mut source, &mut out, &mut err)?;
-        assert_eq!(rt; status, Status::WriteFault, "{text}");
+    for (text, room) in [(STRAIGHT, [TABLE.len() - 1, 0]), ("", [0, 23])] {
+        let found = answered(&rt, rt.alloc(), &["members"], text, room)?;
+        assert_eq!(rt; found.status, Status::WriteFault, "{text}");
     }
     Ok(())
 }
