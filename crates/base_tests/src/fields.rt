@@ -59,8 +59,10 @@ fn tells_names(rt: HostRuntime) {
 
 #[test]
 fn cuts_lines(rt: HostRuntime) {
-    let rows: [(&[u8], &[u8], Option<&[u8]>); 2] =
-        [(b"a\nb\n", b"a", Some(b"b\n")), (b"b", b"b", None)];
+    let rows: [(&[u8], &[u8], Option<&[u8]>); 2] = [
+        (b"a\nb\n", b"a", Some(b"b\n")),
+        (b"b", b"b", None),
+    ];
     for (text, line, rest) in rows {
         assert!(rt; cut_line(text) == (line, rest), "{line:?}");
     }

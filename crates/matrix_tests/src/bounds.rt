@@ -147,13 +147,7 @@ fn limits(rt: HostRuntime) {
     let soft = point(3 << 20);
     let stiff = point(1 << 60);
     for (kappa, load, u, lambda, wide) in [
-        (
-            stiff,
-            point((1 << 66) - (1 << 24)),
-            (1 << 42) - 1,
-            1,
-            false,
-        ),
+        (stiff, point((1 << 66) - (1 << 24)), (1 << 42) - 1, 1, false),
         (stiff, point(1 << 66), 1 << 42, 1, true),
         (soft, point((1 << 63) - 1), 0, 1 << 40, false),
         (soft, point(1 << 63), 0, 1 << 40, true),

@@ -31,8 +31,11 @@ fn copies_of_lists(rt: HostRuntime) -> Result<(), Fail> {
     for (i, j, want) in [(0, 0, 7), (3, 0, -2), (0, 3, 0), (5, 5, 23)] {
         assert_eq!(rt; factor.get(i, j), want, "at {i} {j}");
     }
-    let columns: [(u32, &[u32], &[i64]); 3] =
-        [(0, &[0, 3], &[7, -2]), (4, &[4], &[19]), (6, &[], &[])];
+    let columns: [(u32, &[u32], &[i64]); 3] = [
+        (0, &[0, 3], &[7, -2]),
+        (4, &[4], &[19]),
+        (6, &[], &[]),
+    ];
     for (j, rows, values) in columns {
         assert!(rt; factor.column(j) == (rows, values), "column {j}");
     }

@@ -89,14 +89,14 @@ fn is_bounded(
     }
 }
 
-// The case has this cause and no candidate.
-fn has_cause(rt: &impl Abort, answer: &CaseAnswer, expected: Cause) {
+// The cause of a case without bounds or a candidate.
+fn cause_of(rt: &impl Abort, answer: &CaseAnswer) -> Option<Cause> {
     match answer {
         CaseAnswer::Uncertified { cause, guess } => {
-            assert_eq!(rt; *cause, expected);
             assert!(rt; guess.is_empty());
+            Some(*cause)
         }
-        CaseAnswer::Certified { .. } => assert!(rt; false, "no cause"),
+        CaseAnswer::Certified { .. } => None,
     }
 }
 
@@ -136,24 +136,38 @@ fn tip(rt: HostRuntime) {
             AROUND,
         ],
     );
-    let cause = Cause::WidthLoad {
-        node: NodeId(1),
-        freedom: 2,
-    };
-    has_cause(&rt, &found[2], cause);
+    let cause = cause_of(&rt, &found[2]);
+    assert!(rt;
+        matches!(
+            cause,
+            Some(Cause::WidthLoad {
+                node: NodeId(1),
+                freedom: 2
+            })
+        )
+    );
 }
 
 // The row of a stiffness of 2 * 10^12 N/m is wide in every case.
 #[test]
 fn stiff_anchor(rt: HostRuntime) {
-    let m = model(&rt, rt.alloc(), &[CANTILEVER, "anchor A a 2000000000000 -\n"]);
+    let m = model(
+        &rt,
+        rt.alloc(),
+        &[CANTILEVER, "anchor A a 2000000000000 -\n"],
+    );
     let found = answers_of(&rt, rt.alloc(), &m);
     assert_eq!(rt; found.len(), 3);
-    let cause = Cause::WidthMatrix {
-        node: NodeId(0),
-        freedom: 0,
-    };
     for answer in &found {
-        has_cause(&rt, answer, cause);
+        let cause = cause_of(&rt, answer);
+        assert!(rt;
+            matches!(
+                cause,
+                Some(Cause::WidthMatrix {
+                    node: NodeId(0),
+                    freedom: 0
+                })
+            )
+        );
     }
 }

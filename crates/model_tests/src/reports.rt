@@ -219,7 +219,11 @@ const CANDIDATE: [i128; 12] = [
 
 #[test]
 fn a_contact_state_that_fails(rt: HostRuntime) {
-    let m = model(&rt, rt.alloc(), &[TO_B, "linear S b 0 1 0 -\ncase tip 0 0 0 0 0 0\n"]);
+    let m = model(
+        &rt,
+        rt.alloc(),
+        &[TO_B, "linear S b 0 1 0 -\ncase tip 0 0 0 0 0 0\n"],
+    );
     let report =
         "pipeflex report 1\nmodel 2 1 2 1 0\ncase tip uncertified state S plus\nguess a 0 0 -100 0 100 0\nguess b 0 0 -575286 0 862728 0\nend\n";
     let cause = Cause::State {
@@ -232,7 +236,11 @@ fn a_contact_state_that_fails(rt: HostRuntime) {
 
 #[test]
 fn causes(rt: HostRuntime) -> Result<(), Fail> {
-    let m = model(&rt, rt.alloc(), &[TO_D, "linear S d 0 1 0 -\ncase rest 0 0 0 0 0 0\n"]);
+    let m = model(
+        &rt,
+        rt.alloc(),
+        &[TO_D, "linear S d 0 1 0 -\ncase rest 0 0 0 0 0 0\n"],
+    );
     let (a, d) = (NodeId(0), NodeId(1));
     for (cause, words) in [
         (Cause::WidthElement(ElementId(0)), "width element p"),

@@ -376,7 +376,14 @@ fn refuses_a_text_over_the_limit(rt: HostRuntime) -> Result<(), Fail> {
     let mut source = SafeSource::new(vec![in rt.alloc(); b' '; 4_194_306]?);
     let mut out = SafeSink::new(rt.alloc(), 0)?;
     let mut err = SafeSink::new(rt.alloc(), 100)?;
-    let status = ended(&rt, rt.alloc(), &["members"], &mut source, &mut out, &mut err)?;
+    let status = ended(
+        &rt,
+        rt.alloc(),
+        &["members"],
+        &mut source,
+        &mut out,
+        &mut err,
+    )?;
     assert_eq!(rt; status, Status::Refused);
     assert_eq!(rt; err.bytes(), b"refused 1 line 1 toolong\n".as_slice());
 
@@ -416,7 +423,14 @@ fn ends_at_a_fault_of_the_source(rt: HostRuntime) -> Result<(), Fail> {
     let mut source = StdSource::new(Breaking { is_begun: false });
     let mut out = SafeSink::new(rt.alloc(), 100)?;
     let mut err = SafeSink::new(rt.alloc(), 100)?;
-    let status = ended(&rt, rt.alloc(), &["members"], &mut source, &mut out, &mut err)?;
+    let status = ended(
+        &rt,
+        rt.alloc(),
+        &["members"],
+        &mut source,
+        &mut out,
+        &mut err,
+    )?;
     assert_eq!(rt; status, Status::ReadFault);
     assert_eq!(rt; out.bytes(), b"".as_slice());
     assert_eq!(rt; err.bytes(), b"read fault\n".as_slice());

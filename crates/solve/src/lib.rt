@@ -5,5 +5,6 @@ mod fault;
 mod numerators;
 mod refinement;
 mod substitution;
+
 pub use fault::{NoMemory, SolveFault};
 pub use refinement::candidate;

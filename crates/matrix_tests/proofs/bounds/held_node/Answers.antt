@@ -47,8 +47,8 @@ returns-clause-built c =
     let P : Built → Type 0 = λ b. IsBuilt b in
     IfOk-weaker c.one_node.result _ IsBuilt
     (λ b is.
-      subst P (sym is) (one_node _ c.args.kappa c.in_ok-counted.field-0.items refl
-      (omega (arith, six, c.in_ok-counted.ensures.0)) (λ k below. omega (arith, c.in_ok-counted.ensures.1 k (omega (arith, six)))) c.in_ok-anchors.ensures.anchors))
+    subst P (sym is) (one_node _ c.args.kappa c.in_ok-counted.field-0.items refl
+    (omega (arith, six, c.in_ok-counted.ensures.0)) (λ k below. omega (arith, c.in_ok-counted.ensures.1 k (omega (arith, six)))) c.in_ok-anchors.ensures.anchors))
     c.one_node.ensures
 
 pub returns-clause-stiff : goal.returns-clause-stiff

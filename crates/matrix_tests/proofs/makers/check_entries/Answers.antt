@@ -30,8 +30,8 @@ pub returns : goal.returns
 returns g c = λ i j.
     let kept = c.pattern-nodes.ensures.kept in
     let inside : HasBlock c.args.matrix.now (i / 6) (j / 6) → IsEntry c.args.signed (entry c.args.matrix.now i j) = λ block.
-        let in_range = kept.in_range (j / 6) (i / 6) (kept.converse (i / 6) (j / 6) block) in
-        c.loop-row.invariant i j (omega (arith, in_range, c.requires.nodes, c.loop-row-test.false)) block in
+    let in_range = kept.in_range (j / 6) (i / 6) (kept.converse (i / 6) (j / 6) block) in
+    c.loop-row.invariant i j (omega (arith, in_range, c.requires.nodes, c.loop-row-test.false)) block in
     record {
       size = small (HasBlock c.args.matrix.now (i / 6) (j / 6)) (entry c.args.matrix.now i j) (λ block. (inside block).size) (kept.outside i j);
       sign = λ unsigned. not_below (HasBlock c.args.matrix.now (i / 6) (j / 6)) (entry c.args.matrix.now i j) (λ block. (inside block).sign unsigned) (kept.outside i j);
