@@ -130,20 +130,30 @@ fn base(rt: &impl Abort, number: u32) -> Record
     }
 }
 
-#[test]
-fn takes_a_model(rt: HostRuntime) {
-    let mut draft = Draft::new(rt.alloc()).expect(&rt, "memory");
+// The draft takes the base model.
+fn fill(rt: &impl Abort, draft: &mut Draft) {
     for number in 0..8 {
-        accept(&rt, &mut draft, base(&rt, number));
+        accept(rt, draft, base(rt, number));
     }
+}
+
+// The draft finds its names, each in its space.
+fn find(rt: &impl Abort, draft: &Draft) {
     assert_eq!(rt; draft.count(Space::Node), 2);
     for (space, text, number) in [
         (Space::Node, "b", Some(1)),
         (Space::Node, "p", None),
         (Space::Element, "p", Some(0)),
     ] {
-        assert_eq!(rt; draft.find(space, &name(&rt, text)), number, "{text}");
+        assert_eq!(rt; draft.find(space, &name(rt, text)), number, "{text}");
     }
+}
+
+#[test]
+fn takes_a_model(rt: HostRuntime) {
+    let mut draft = Draft::new(rt.alloc()).expect(&rt, "memory");
+    fill(&rt, &mut draft);
+    find(&rt, &draft);
     counts(&rt, &draft.finish().expect(&rt, "a model"));
 }
 
@@ -196,9 +206,8 @@ fn judged(rt: &impl Abort, number: u32) -> Record
     }
 }
 
-#[test]
-fn refuses_by_number(rt: HostRuntime) {
-    let mut draft = Draft::new(rt.alloc()).expect(&rt, "memory");
+// The draft takes and refuses these records.
+fn judge_all(rt: &impl Abort, draft: &mut Draft) {
     for (number, refusal) in [
         (0, None),
         (1, Some(8)),
@@ -213,9 +222,15 @@ fn refuses_by_number(rt: HostRuntime) {
         (10, Some(11)),
         (11, Some(9)),
     ] {
-        let found = refusal_of(&rt, &mut draft, judged(&rt, number));
+        let found = refusal_of(rt, draft, judged(rt, number));
         assert_eq!(rt; found, refusal, "record {number}");
     }
+}
+
+#[test]
+fn refuses_by_number(rt: HostRuntime) {
+    let mut draft = Draft::new(rt.alloc()).expect(&rt, "memory");
+    judge_all(&rt, &mut draft);
 }
 
 #[test]
@@ -227,12 +242,22 @@ fn misses_a_node(rt: HostRuntime) {
 #[test]
 fn fills_up(rt: HostRuntime) {
     let mut draft = Draft::new(rt.alloc()).expect(&rt, "memory");
+    fill_up(&rt, rt.alloc(), &mut draft);
+    refuse_more(&rt, &mut draft);
+}
+
+// The draft takes as many nodes as there may be.
+fn fill_up(rt: &impl Abort, alloc: Global, draft: &mut Draft) {
     for i in 0..2000 {
-        accept_node(&rt, rt.alloc(), &mut draft, i);
+        accept_node(rt, alloc, draft, i);
     }
-    assert_eq!(rt; draft.find(Space::Node, &name(&rt, "n1234")), Some(1234));
+    assert_eq!(rt; draft.find(Space::Node, &name(rt, "n1234")), Some(1234));
+}
+
+// The full draft refuses one more node, and a name that it has before that.
+fn refuse_more(rt: &impl Abort, draft: &mut Draft) {
     for (text, number) in [("one-more", 14), ("n7", 8)] {
-        let found = refusal_of(&rt, &mut draft, node(&rt, text, 0));
+        let found = refusal_of(rt, draft, node(rt, text, 0));
         assert_eq!(rt; found, Some(number), "{text}");
     }
 }
