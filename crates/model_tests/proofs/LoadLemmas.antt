@@ -1,5 +1,5 @@
 -- The loads of a model with one restraint.
-use Rattle.std.proofs.Common.{◌≡◌, ℕ, List, [], ◌∷◌, length, get_or, arith}
+use Rattle.std.proofs.Common.{◌≡◌, List, [], ◌∷◌, length, get_or, arith}
 use Rattle.model_types.specs.declared.records.Restraint.{Restraint}
 use Rattle.report.specs.Fits.{loads_count}
 use Rattle.report.specs.Report.{load_count}

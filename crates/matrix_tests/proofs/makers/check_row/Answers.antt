@@ -1,4 +1,4 @@
-use Rattle.std.proofs.Common.{arith, ap, subst, sym, ℕ, ◌≡◌, ◌<◌, ◌/◌, ◌∙◌, List, slice_index, Contains, inl, inr}
+use Rattle.std.proofs.Common.{arith, ap, subst, sym, ℕ, ◌/◌, ◌∙◌, List, slice_index, Contains, inl, inr}
 use Rattle.std.proofs.lemmas.Bool.{cases_eq}
 use Rattle.std.proofs.lemmas.List.{get_or_default}
 use Rattle.matrix_tests.proofs.makers.check_row.Goals as goal
