@@ -5,7 +5,6 @@ use load_vectors::{LoadFault, loads};
 use model_types::CaseId;
 use std::alloc::Global;
 use std::process::Abort;
-use std::test::Fail;
 
 // 2^66 units are 2^26 N, or 67,108,864,000 mN.
 const FORCES: &str = "node a 0 0 0
@@ -28,8 +27,8 @@ fn loads_of(rt: &impl Abort, alloc: Global, case: u32) -> Result<Vec<Iv>, LoadFa
 
 // 1,000,000 mN and 500,000 mN are 1500 N. 1 mN is 1,099,511,627.776 units.
 #[test]
-fn forces_add(rt: HostRuntime) -> Result<(), Fail> {
-    let found = loads_of(&rt, rt.alloc(), 0)?;
+fn forces_add(rt: HostRuntime) {
+    let found = loads_of(&rt, rt.alloc(), 0).expect(&rt, "loads");
     let expected = [
         point(0),
         point(0),
@@ -50,8 +49,7 @@ fn forces_add(rt: HostRuntime) -> Result<(), Fail> {
         point(-(2 << 40)),
         point(0),
     ];
-    assert_eq!(rt; found.as_slice(), expected.as_slice());
-    Ok(())
+    assert!(rt; found.as_slice() == expected.as_slice());
 }
 
 // Rows 5 and 6 are at the limit, and row 4 is not.

@@ -4,11 +4,10 @@ ghost use Rattle.model_types.specs.Ranges.{InForm, IsIn, coordinate, wall};
 
 use model_types::{
     AddFault, Bounds, Case, CaseId, Draft, Element, Force, Material, MaterialId, Model, Name, Node,
-    NodeId, Record, Restraint, RestraintKind, Section, SectionId, Shape, Space, Values, WholeFault,
+    NodeId, Record, Restraint, RestraintKind, Section, SectionId, Shape, Space, WholeFault,
 };
 use std::alloc::Global;
 use std::process::Abort;
-use std::test::Fail;
 
 const NO_SINE: Bounds = Bounds { lo: 0, hi: 0 };
 
@@ -111,7 +110,7 @@ fn force(case: u32, node: u32) -> Record
 fn accept(rt: &impl Abort, draft: &mut Draft, candidate: Record)
     requires { InForm candidate }
 {
-    assert_eq!(rt; draft.add(candidate, NO_SINE), Ok(()));
+    assert!(rt; draft.add(candidate, NO_SINE) == Ok(()));
 }
 
 // The records of the base model.
@@ -139,13 +138,13 @@ fn fill(rt: &impl Abort, draft: &mut Draft) {
 
 // The draft finds its names, each in its space.
 fn find(rt: &impl Abort, draft: &Draft) {
-    assert_eq!(rt; draft.count(Space::Node), 2);
+    assert!(rt; draft.count(Space::Node) == 2);
     for (space, text, number) in [
         (Space::Node, "b", Some(1)),
         (Space::Node, "p", None),
         (Space::Element, "p", Some(0)),
     ] {
-        assert_eq!(rt; draft.find(space, &name(rt, text)), number, "{text}");
+        assert!(rt; draft.find(space, &name(rt, text)) == number);
     }
 }
 
@@ -187,6 +186,13 @@ fn refusal_of(rt: &impl Abort, draft: &mut Draft, candidate: Record) -> Option<u
     }
 }
 
+// The draft refuses the record by this number, or takes it.
+fn judge(rt: &impl Abort, draft: &mut Draft, candidate: Record, refusal: Option<u8>)
+    requires { InForm candidate }
+{
+    assert!(rt; refusal_of(rt, draft, candidate) == refusal);
+}
+
 // Records that are taken or refused one after another.
 fn judged(rt: &impl Abort, number: u32) -> Record
     ensures { InForm result }
@@ -222,8 +228,7 @@ fn judge_all(rt: &impl Abort, draft: &mut Draft) {
         (10, Some(11)),
         (11, Some(9)),
     ] {
-        let found = refusal_of(rt, draft, judged(rt, number));
-        assert_eq!(rt; found, refusal, "record {number}");
+        judge(rt, draft, judged(rt, number), refusal);
     }
 }
 
@@ -251,14 +256,13 @@ fn fill_up(rt: &impl Abort, alloc: Global, draft: &mut Draft) {
     for i in 0..2000 {
         accept_node(rt, alloc, draft, i);
     }
-    assert_eq!(rt; draft.find(Space::Node, &name(rt, "n1234")), Some(1234));
+    assert!(rt; draft.find(Space::Node, &name(rt, "n1234")) == Some(1234));
 }
 
 // The full draft refuses one more node, and a name that it has before that.
 fn refuse_more(rt: &impl Abort, draft: &mut Draft) {
     for (text, number) in [("one-more", 14), ("n7", 8)] {
-        let found = refusal_of(rt, draft, node(rt, text, 0));
-        assert_eq!(rt; found, Some(number), "{text}");
+        judge(rt, draft, node(rt, text, 0), Some(number));
     }
 }
 
@@ -266,13 +270,4 @@ fn refuse_more(rt: &impl Abort, draft: &mut Draft) {
 fn accept_node(rt: &impl Abort, alloc: Global, draft: &mut Draft, number: u32) {
     let text = format!(in alloc; "n{number}").expect(rt, "memory");
     accept(rt, draft, node(rt, &text, 0));
-}
-
-#[test]
-fn keeps_values(rt: HostRuntime) -> Result<(), Fail> {
-    let values = Values::new([3, 4].to_vec(rt.alloc())?);
-    assert!(rt; values.len() == 2 && !values.is_empty());
-    assert_eq!(rt; values.as_slice(), [3, 4].as_slice());
-    assert_eq!(rt; values.into_vec().as_slice(), [3, 4].as_slice());
-    Ok(())
 }

@@ -22,9 +22,15 @@ fn refusal(rt: &impl Abort, alloc: Global, text: &[u8]) -> Option<(u8, u32)> {
     }
 }
 
-// The base text with one more line.
-fn base_with(rt: &impl Abort, alloc: Global, line: &str) -> String {
-    format!(in alloc; "{BASE}{line}").expect(rt, "memory")
+// The text is refused by this number at this line, or read.
+fn judge(rt: &impl Abort, alloc: Global, text: &str, expected: Option<(u8, u32)>) {
+    assert_eq!(rt; refusal(rt, alloc, text.as_bytes()), expected, "at {text}");
+}
+
+// The base text with one more line, likewise.
+fn judge_line(rt: &impl Abort, alloc: Global, line: &str, expected: Option<(u8, u32)>) {
+    let text = format!(in alloc; "{BASE}{line}").expect(rt, "memory");
+    judge(rt, alloc, text.as_str(), expected);
 }
 
 #[test]
@@ -39,11 +45,7 @@ fn refuses_whole_texts(rt: HostRuntime) {
         ("pipeflex 1\nmaterial st 2x 300 12000 7850\n", 6, 2),
         ("pipeflex 1\n# \u{7f}\n", 2, 2),
     ] {
-        assert_eq!(rt;
-            refusal(&rt, rt.alloc(), text.as_bytes()),
-            Some((number, line)),
-            "at {text}"
-        );
+        judge(&rt, rt.alloc(), text, Some((number, line)));
     }
 }
 
@@ -71,12 +73,7 @@ fn refuses_one_more_line(rt: HostRuntime) {
         ("case c 0 0 0 1 0 0", 17),
         ("force c a 0 0 0 0 0 0", 9),
     ] {
-        let text = base_with(&rt, rt.alloc(), line);
-        assert_eq!(rt;
-            refusal(&rt, rt.alloc(), text.as_bytes()),
-            Some((number, 8)),
-            "at {line}"
-        );
+        judge_line(&rt, rt.alloc(), line, Some((number, 8)));
     }
 }
 
@@ -89,37 +86,34 @@ fn reads_what_it_may(rt: HostRuntime) {
         "twist B a 0 0 1 2000000000000",
         "case c 0 0 0 0 0 0\nforce c b 0 0 -1000000 0 0 0\nforce c b 0 0 1 0 0 0",
     ] {
-        let text = base_with(&rt, rt.alloc(), line);
-        assert_eq!(rt;
-            refusal(&rt, rt.alloc(), text.as_bytes()),
-            None,
-            "at {line}"
-        );
+        judge_line(&rt, rt.alloc(), line, None);
     }
 }
 
 #[test]
 fn refuses_a_long_text(rt: HostRuntime) {
     let text = vec![in rt.alloc(); b' '; 4_194_305].expect(&rt, "memory");
-    assert_eq!(rt; refusal(&rt, rt.alloc(), text.as_slice()), Some((1, 1)));
+    assert!(rt; refusal(&rt, rt.alloc(), text.as_slice()) == Some((1, 1)));
 }
 
 #[test]
 fn finds_the_line_of_a_node(rt: HostRuntime) {
     let text = BASE.as_bytes();
     let model = read(rt.alloc(), text).expect(&rt, "a model");
-    if model.nodes().len() > 1 {
-        let line = node_line(rt.alloc(), text, NodeId(1)).expect(&rt, "memory");
-        assert_eq!(rt; line, 5);
-    } else {
-        panic!(rt; "a node is missing");
-    }
+    assert!(rt; model.nodes().len() > 1);
+    let line = node_line(rt.alloc(), text, NodeId(1)).expect(&rt, "memory");
+    assert!(rt; line == 5);
 }
 
 // The canonical text of the model of a text.
 fn canonical(rt: &impl Abort, alloc: Global, text: &str) -> Vec<u8> {
     let model = read(alloc, text.as_bytes()).expect(rt, "a model");
     echo(alloc, &model).expect(rt, "memory")
+}
+
+fn expect_echo(rt: &impl Abort, alloc: Global, text: &str, expected: &str) {
+    let echoed = canonical(rt, alloc, text);
+    assert!(rt; echoed.as_slice() == expected.as_bytes());
 }
 
 #[test]
@@ -131,8 +125,7 @@ node a 0 0 0
 node b 1000000 1000000 0
 straight p a b s
 ";
-    let echoed = canonical(&rt, rt.alloc(), slanted);
-    assert_eq!(rt; echoed.as_slice(), slanted.as_bytes());
+    expect_echo(&rt, rt.alloc(), slanted, slanted);
 
     let mixed = " pipeflex\t1 # header
 node a 0 0 0
@@ -151,6 +144,5 @@ anchor A a - 10
 case c 0 0 0 0 0 0
 force c a -1 2 -3 4 -5 6
 ";
-    let echoed = canonical(&rt, rt.alloc(), mixed);
-    assert_eq!(rt; echoed.as_slice(), sorted.as_bytes());
+    expect_echo(&rt, rt.alloc(), mixed, sorted);
 }
