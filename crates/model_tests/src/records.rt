@@ -4,7 +4,7 @@ ghost use Rattle.model_types.specs.Ranges.{InForm, IsIn, coordinate, wall};
 
 use model_types::{
     AddFault, Bounds, Case, CaseId, Draft, Element, Force, Material, MaterialId, Model, Name, Node,
-    NodeId, Record, Restraint, RestraintKind, Section, SectionId, Shape, Space, WholeFault,
+    NodeId, Record, Restraint, RestraintKind, Section, SectionId, Shape, Space,
 };
 use std::alloc::Global;
 use std::process::Abort;
@@ -236,12 +236,6 @@ fn judge_all(rt: &impl Abort, draft: &mut Draft) {
 fn refuses_by_number(rt: HostRuntime) {
     let mut draft = Draft::new(rt.alloc()).expect(&rt, "memory");
     judge_all(&rt, &mut draft);
-}
-
-#[test]
-fn misses_a_node(rt: HostRuntime) {
-    let draft = Draft::new(rt.alloc()).expect(&rt, "memory");
-    assert!(rt; matches!(draft.finish(), Err(WholeFault::Missing)));
 }
 
 #[test]
