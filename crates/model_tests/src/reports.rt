@@ -9,6 +9,7 @@ use model_types::{
 use report::bytes;
 use std::alloc::Global;
 use std::process::Abort;
+use std::slice;
 
 const NOTHING: Bounds = Bounds { lo: 0, hi: 0 };
 
@@ -120,7 +121,7 @@ fn expect_report(rt: &impl Abort, alloc: Global, m: &Model, answer: CaseAnswer, 
     requires { FitsModel m.now answer }
 {
     assert!(rt; m.cases().len() == 1);
-    let written = bytes(alloc, m, &[answer]).expect(rt, "memory");
+    let written = bytes(alloc, m, slice::from_ref(&answer)).expect(rt, "memory");
     assert!(rt; written.as_slice() == report.as_bytes());
 }
 
