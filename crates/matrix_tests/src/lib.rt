@@ -2,11 +2,7 @@
 #![tactic(auto)]
 
 #[cfg(test)]
-mod blocks;
-#[cfg(test)]
 mod bounds;
-#[cfg(test)]
-mod columns;
 #[cfg(test)]
 mod definiteness;
 #[cfg(test)]

@@ -137,7 +137,7 @@ pub(crate) fn chain_factor(
         rows.push(counted(alloc, position, end)?)?;
         values.push(column(alloc, end - position, own, below)?)?;
     }
-    Ok(Factor::of_parts(order, rows, values))
+    Factor::of_lists(alloc, &order, &rows, &values)
 }
 
 // A structure of one node, with the numbers of the members that touch it.

@@ -38,15 +38,16 @@ chain order rows values nodes ordered size rows_size values_size aligned below a
       ];
     }
 
-pub of_parts-requires : goal.of_parts-requires
-of_parts-requires c =
+pub of_lists-requires : goal.of_lists-requires
+of_lists-requires c =
     let nodes = c.args.nodes in
     let done = c.loop-position.invariant in
     let all : c.loop-position.position ≡ 6 * c.args.nodes = omega (arith, c.loop-position.auto.position-end) in
     let size : length c.in_ok-order.order.items ≡ c.args.nodes = omega (arith, c.in_ok-order.ensures.count) in
     let ordered = c.in_ok-order.ensures.order in
-    chain c.in_ok-order.order.items (contents c.loop-position.rows.items) (contents c.loop-position.values.items) c.args.nodes ordered size (done.rows_length ∙ all) (done.values_length ∙ all)
-    (λ k h. done.aligned k (omega (arith, all))) (λ k h. done.below k (omega (arith, all))) (λ k h. done.rows k (omega (arith, all)))
+    rw (c.deref.ensures.value, c.deref-2.ensures.value, c.deref-3.ensures.value)
+    (chain c.in_ok-order.order.items (contents c.loop-position.rows.items) (contents c.loop-position.values.items) c.args.nodes ordered size (done.rows_length ∙ all) (done.values_length ∙ all)
+    (λ k h. done.aligned k (omega (arith, all))) (λ k h. done.below k (omega (arith, all))) (λ k h. done.rows k (omega (arith, all))))
 
 pub loop-position-preserved : goal.loop-position-preserved
 loop-position-preserved c =
