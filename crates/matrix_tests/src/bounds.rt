@@ -96,6 +96,21 @@ fn has_ends(e: Iv, ends: (i128, i128)) -> bool {
     e.lo == ends.0 && e.hi == ends.1
 }
 
+const LOADS: [Iv; 6] = [
+    Iv {
+        lo: 15_728_642,
+        hi: 15_728_642,
+    },
+    Iv { lo: -12, hi: -12 },
+    Iv {
+        lo: -3_145_731,
+        hi: -3_145_731,
+    },
+    Iv { lo: 84, hi: 84 },
+    Iv { lo: 0, hi: 0 },
+    Iv { lo: 1, hi: 1 },
+];
+
 // With 3 N/m, or one unit less, the forces are 15 and -3 millions of 2^-40 N, to five units and to one. What is left is at most
 // 7, 12, 4, 84, 0 and 1 in size: 7266 as a sum of squares, between 85^2 and 86^2. Over 1000 units of stiffness that makes
 // 5,909,874,999.3 units of displacement, and 86 times the root of 3145.728 is 4823.5 units of force.
@@ -105,16 +120,8 @@ fn around_a_node(rt: HostRuntime) -> Result<(), Fail> {
         lo: 3_145_727,
         hi: 3_145_728,
     };
-    let loads = [
-        point(15_728_642),
-        point(-12),
-        point(-3_145_731),
-        point(84),
-        point(0),
-        point(1),
-    ];
     let u = [5 << 36, 0, -(1 << 36), 0, 0, 7];
-    let answer = enclosed(&rt, rt.alloc(), kappa, &loads, &u, 1000)?;
+    let answer = enclosed(&rt, rt.alloc(), kappa, &LOADS, &u, 1000)?;
     check_ends(
         &rt,
         answer.u.as_slice(),

@@ -4,10 +4,22 @@ ghost use Rattle.factor_data.specs.Columns.{entry};
 
 use crate::makers::{chain_factor, one_node};
 use factor_data::Factor;
-use flex_interval::point;
+use flex_interval::Iv;
 use solve::candidate;
 use std::process::Abort;
 use std::test::Fail;
+
+const LOADS: [Iv; 6] = [
+    Iv { lo: 1000, hi: 1000 },
+    Iv { lo: -1, hi: -1 },
+    Iv { lo: 0, hi: 0 },
+    Iv { lo: 7, hi: 7 },
+    Iv { lo: 0, hi: 0 },
+    Iv {
+        lo: 1 << 40,
+        hi: 1 << 40,
+    },
+];
 
 // The diagonal of a node's factor is above 0.
 fn check_diagonal(rt: &impl Abort, factor: &Factor)
@@ -24,15 +36,7 @@ fn eight_turns(rt: HostRuntime) -> Result<(), Fail> {
     let structure = one_node(rt.alloc(), Vec::new(rt.alloc()), Vec::new(rt.alloc()))?;
     let factor = chain_factor(rt.alloc(), 1, 1 << 44, 0)?;
     check_diagonal(&rt, &factor);
-    let loads = [
-        point(1000),
-        point(-1),
-        point(0),
-        point(7),
-        point(0),
-        point(1 << 40),
-    ];
-    let u = candidate(rt.alloc(), &structure, &[], &[], &loads, &factor)?;
+    let u = candidate(rt.alloc(), &structure, &[], &[], &LOADS, &factor)?;
     assert!(rt; u.as_slice() == [8000, -8, 0, 56, 0, 8 << 40].as_slice());
     Ok(())
 }
