@@ -38,31 +38,87 @@ kappa 8 7293355829532 7293355829544
 end
 ";
 
-// The anchor gives way by 100 nm and 100 nrad, and is 1 m away.
-const CANTILEVER_LINES: &str = "\
-1 1 0
+// The lower ends are A E / L, G J / L, E I / L and 12 E I / L^3 of the square root of 2 m, in 1 / 2^20 N/m and N m, rounded down.
+const SLANTED_TABLE: &str = "\
+pipeflex members 1
+element q straight 8
+kappa 1 419283037778611 419283037778612
+kappa 2 330588549017 330588549019
+kappa 3 429765113723 429765113724
+kappa 4 429765113723 429765113724
+kappa 5 429765113723 429765113724
+kappa 6 2578590682338 2578590682344
+kappa 7 2578590682338 2578590682344
+kappa 8 2578590682338 2578590682344
+end
+";
+
+const LONGEST: &str = "\
+pipeflex 1
+material st 200000 300 12000 7850
+section s st 100000 10000 0 0
+node a 0 0 0
+node b 30000000 0 0
+straight p a b s
+";
+
+const SLANTED: &str = "\
+pipeflex 1
+material st 200000 300 12000 7850
+section s st 100000 10000 0 0
+node a 0 0 0
+node b 1000000 1000000 0
+straight p a b s
+";
+
+const LOOSE: &str = "# a line\n\tpipeflex  1 # the header
+node a 0 0 0
+node\tb 1000000 1000000 0 \t# slanted
+
+material st 200000 300 12000 7850
+section s st 100000 10000 0 0
+straight p a b s";
+
+// A cantilever: 1 m of pipe of 100 mm by 10 mm with E of 200,000 MPa, fixed at a, and F = 1,000 N down at b. With
+// I = pi (100^4 - 80^4) / 64 = 2,898,119.2 mm^4 the textbook has F L^3 / 3 E I = 575,085.6 nm and
+// F L^2 / 2 E I = 862,628.4 nrad. The anchor, of K = 10^10 N/m and N m/rad, adds its movement F / K = 100 nm and its rotation
+// F L / K = 100 nrad, which lowers the tip by 100 nm more: 575,285.6 nm and 862,728.4 nrad together.
+const CANTILEVER: &str = "\
+anchor A a - -
+case tip 0 0 0 0 0 0
+force tip b 0 0 -1000000 0 0 0
+";
+
+const CANTILEVER_REPORT: &str = "\
+pipeflex report 1
+model 2 1 1 1 0
 case tip certified
 node a -1 1 -1 1 -101 -99 -1 1 99 101 -1 1
 node b -1 1 -1 1 -575286 -575285 -1 1 862728 862729 -1 1
 restraint A -1 1 -1 1 -1000001 -999999 -1 1 999999 1000001 -1 1
+end
 ";
 
-const REST_LINES: &str = "\
-1 1 0
+const REST_REPORT: &str = "\
+pipeflex report 1
+model 2 1 1 1 0
 case rest certified
 node a 0 0 0 0 0 0 0 0 0 0 0 0
 node b 0 0 0 0 0 0 0 0 0 0 0 0
 restraint A 0 0 0 0 0 0 0 0 0 0 0 0
+end
 ";
 
 // The load stands on the anchor of its own node, but for what that gives way.
-const HELD_LINES: &str = "\
-2 1 0
+const HELD_REPORT: &str = "\
+pipeflex report 1
+model 2 1 2 1 0
 case tip certified
 node a -1 1 -1 1 -1 0 -1 1 0 1 -1 1
 node b -1 1 -1 1 -100 -99 -1 1 0 1 -1 1
 restraint A -1 1 -1 1 -695 -694 -1 1 347 348 -1 1
 restraint B -1 1 -1 1 -999306 -999305 -1 1 347 348 -1 1
+end
 ";
 
 const USAGE: &str =
@@ -70,111 +126,321 @@ const USAGE: &str =
 
 const UNBUILT: &str = "refused 17 line 1 unbuilt\n";
 
-// Runs the program on words.
-fn ended<R: Threads + Sync, S: Source>(
-    rt: &R,
-    alloc: Global,
-    words: &[&str],
-    source: &mut S,
-    out: &mut SafeSink,
-    err: &mut SafeSink,
-) -> Result<Status, AllocError> {
+// The words as a command line has them.
+fn line_of(alloc: Global, words: &[&str]) -> Result<Vec<String>, AllocError> {
     let mut line = Vec::new(alloc);
     for word in words {
         line.push(word.to_string(alloc)?)?;
     }
-    Ok(run(rt, alloc, &line, source, out, err, &Idle))
+    Ok(line)
 }
 
-// How a run ended, and what it wrote.
-#[derive(Drop)]
-struct Told {
-    status: Status,
-    out: SafeSink,
-    err: SafeSink,
-}
-
-// Runs the program on words and a text, with so much room in both sinks.
-fn answered<R: Threads + Sync>(
+// The run ends with this status, output and message; the sinks have no more room than for these.
+fn ends<R: Threads + Sync + Abort, S: Source>(
     rt: &R,
     alloc: Global,
-    words: &[&str],
-    text: &str,
-    room: [usize; 2],
-) -> Result<Told, AllocError> {
-    let mut source = SafeSource::new(text.as_bytes().to_vec(alloc)?);
-    let mut out = SafeSink::new(alloc, room[0])?;
-    let mut err = SafeSink::new(alloc, room[1])?;
-    let status = ended(rt, alloc, words, &mut source, &mut out, &mut err)?;
-    Ok(Told { status, out, err })
-}
-
-// The words and the text are answered with this status, output and message.
-fn check<R: Threads + Sync + Abort>(
-    rt: &R,
-    alloc: Global,
-    words: &[&str],
-    text: &str,
-    status: Status,
-    out: &str,
-    err: &str,
+    line: &[String],
+    source: &mut S,
+    want: (Status, &str, &str),
 ) -> Result<(), Fail> {
-    let found = answered(rt, alloc, words, text, [out.len(), err.len()])?;
-    assert!(rt; found.status == status, "{text}");
-    let written = (found.out.bytes(), found.err.bytes());
-    assert!(rt; written == (out.as_bytes(), err.as_bytes()), "{text}");
+    let (status, told, message) = want;
+    let mut out = SafeSink::new(alloc, told.len())?;
+    let mut err = SafeSink::new(alloc, message.len())?;
+    let found = run(rt, alloc, line, source, &mut out, &mut err, &Idle);
+    assert!(rt;
+        (found, out.bytes(), err.bytes()) == (status, told.as_bytes(), message.as_bytes()),
+        "{told}{message}"
+    );
     Ok(())
 }
 
+// The words and a text of a head and a rest are answered so.
+fn answers<R: Threads + Sync + Abort>(
+    rt: &R,
+    alloc: Global,
+    words: &[&str],
+    text: (&str, &str),
+    want: (Status, &str, &str),
+) -> Result<(), Fail> {
+    let line = line_of(alloc, words)?;
+    let (head, rest) = text;
+    let mut bytes = head.as_bytes().to_vec(alloc)?;
+    bytes.extend_from_slice(rest.as_bytes())?;
+    ends(rt, alloc, &line, &mut SafeSource::new(bytes), want)
+}
+
+type Row = (
+    &'static [&'static str],
+    (&'static str, &'static str),
+    (Status, &'static str, &'static str),
+);
+
 #[test]
 fn answers_words(rt: HostRuntime) -> Result<(), Fail> {
-    let words: [(&[&str], Status, &str, &str); 15] = [
-        (&["members"], Status::Done, TABLE, ""),
-        (&["echo"], Status::Done, STRAIGHT, ""),
-        (&[], Status::Usage, "", USAGE),
-        (&["member"], Status::Usage, "", USAGE),
-        (&["members", "echo"], Status::Usage, "", USAGE),
-        (&["analyse"], Status::Refused, "", UNBUILT),
+    let rows: [Row; 17] = [
+        // The words.
+        (&["members"], (STRAIGHT, ""), (Status::Done, TABLE, "")),
+        (&["echo"], (STRAIGHT, ""), (Status::Done, STRAIGHT, "")),
+        (&[], (STRAIGHT, ""), (Status::Usage, "", USAGE)),
+        (&["member"], (STRAIGHT, ""), (Status::Usage, "", USAGE)),
+        (
+            &["members", "echo"],
+            (STRAIGHT, ""),
+            (Status::Usage, "", USAGE),
+        ),
+        (&["analyse"], (STRAIGHT, ""), (Status::Refused, "", UNBUILT)),
         (
             &["analyse", "--workers", "64"],
-            Status::Refused,
-            "",
-            UNBUILT,
+            (STRAIGHT, ""),
+            (Status::Refused, "", UNBUILT),
         ),
-        (&["analyse", "--workers", "0"], Status::Usage, "", USAGE),
-        (&["analyse", "--workers", "65"], Status::Usage, "", USAGE),
-        (&["analyse", "--workers", "04"], Status::Usage, "", USAGE),
-        (&["analyse", "--workers", "-4"], Status::Usage, "", USAGE),
-        (&["analyse", "--workers"], Status::Usage, "", USAGE),
-        (&["members", "--workers", "4"], Status::Usage, "", USAGE),
-        (&["generate", "1"], Status::Usage, "", USAGE),
-        (&["summary", "1"], Status::Usage, "", USAGE),
+        (
+            &["analyse", "--workers", "0"],
+            (STRAIGHT, ""),
+            (Status::Usage, "", USAGE),
+        ),
+        (
+            &["analyse", "--workers", "65"],
+            (STRAIGHT, ""),
+            (Status::Usage, "", USAGE),
+        ),
+        (
+            &["analyse", "--workers", "04"],
+            (STRAIGHT, ""),
+            (Status::Usage, "", USAGE),
+        ),
+        (
+            &["analyse", "--workers", "-4"],
+            (STRAIGHT, ""),
+            (Status::Usage, "", USAGE),
+        ),
+        (
+            &["analyse", "--workers"],
+            (STRAIGHT, ""),
+            (Status::Usage, "", USAGE),
+        ),
+        (
+            &["members", "--workers", "4"],
+            (STRAIGHT, ""),
+            (Status::Usage, "", USAGE),
+        ),
+        (
+            &["generate", "1"],
+            (STRAIGHT, ""),
+            (Status::Usage, "", USAGE),
+        ),
+        (
+            &["summary", "1"],
+            (STRAIGHT, ""),
+            (Status::Usage, "", USAGE),
+        ),
+        // A sink without room.
+        (&["members"], (STRAIGHT, ""), (Status::WriteFault, "", "")),
+        (&["members"], ("", ""), (Status::WriteFault, "", "")),
     ];
-    for (words, status, out, err) in words {
-        check(&rt, rt.alloc(), words, STRAIGHT, status, out, err)?;
+    for (words, text, want) in rows {
+        answers(&rt, rt.alloc(), words, text, want)?;
     }
     Ok(())
 }
 
 #[test]
-fn writes_the_table(rt: HostRuntime) -> Result<(), Fail> {
-    for (rest, start) in [
-        ("node b 1000000 0 0\nstraight p a b s\n", TABLE),
+fn writes_tables_and_texts(rt: HostRuntime) -> Result<(), Fail> {
+    let rows: [Row; 6] = [
+        // The table. A straight of a micrometre is too stiff.
         (
-            "node b 1000000 1000000 0\nstraight q b a s\n",
-            "pipeflex members 1\nelement q straight 8\nkappa 1 419283037778611 419283037778612\nkappa 2 ",
+            &["members"],
+            (HEAD, "node b 1000000 1000000 0\nstraight q b a s\n"),
+            (Status::Done, SLANTED_TABLE, ""),
         ),
-        ("", "pipeflex members 1\nend\n"),
-        // A straight of a micrometre is too stiff.
         (
-            "node b 1 0 0\nstraight p a b s\n",
-            "pipeflex members 1\nelement p wide\nend\n",
+            &["members"],
+            (HEAD, ""),
+            (Status::Done, "pipeflex members 1\nend\n", ""),
         ),
-    ] {
-        let text = format!(in rt.alloc(); "{HEAD}{rest}")?;
-        let found = answered(&rt, rt.alloc(), &["members"], &text, [1000, 0])?;
-        assert!(rt; found.status == Status::Done, "{rest}");
-        assert!(rt; found.out.bytes().starts_with(start.as_bytes()), "{rest}");
+        (
+            &["members"],
+            (HEAD, "node b 1 0 0\nstraight p a b s\n"),
+            (
+                Status::Done,
+                "pipeflex members 1\nelement p wide\nend\n",
+                "",
+            ),
+        ),
+        // The canonical text.
+        (&["echo"], (LONGEST, ""), (Status::Done, LONGEST, "")),
+        (&["echo"], (SLANTED, ""), (Status::Done, SLANTED, "")),
+        (&["echo"], (LOOSE, ""), (Status::Done, SLANTED, "")),
+    ];
+    for (words, text, want) in rows {
+        answers(&rt, rt.alloc(), words, text, want)?;
+    }
+    Ok(())
+}
+
+#[test]
+fn refuses_one_more_line(rt: HostRuntime) -> Result<(), Fail> {
+    let rows: [Row; 9] = [
+        // A line more that is refused.
+        (
+            &["echo"],
+            (HEAD, "node b 30000001 0 0\nstraight p a b s\n"),
+            (Status::Refused, "", "refused 11 line 6 longelement\n"),
+        ),
+        (
+            &["echo"],
+            (HEAD, "node b 0 0 0\nstraight p a b s\n"),
+            (Status::Refused, "", "refused 10 line 6 zerolength\n"),
+        ),
+        (
+            &["echo"],
+            (HEAD, "node a 1 1 1\n"),
+            (Status::Refused, "", "refused 8 line 5 doubled\n"),
+        ),
+        (
+            &["echo"],
+            (HEAD, "section t st 100000 50000 0 0\n"),
+            (Status::Refused, "", "refused 13 line 5 walltoothick\n"),
+        ),
+        // Models that are not analysed.
+        (
+            &["analyse"],
+            (
+                HEAD,
+                "node b 1000000 0 0\nstraight p a b s\nanchor A a - -\n",
+            ),
+            (Status::Refused, "", UNBUILT),
+        ),
+        (
+            &["analyse"],
+            (
+                HEAD,
+                "node b 1000000 0 0\nstraight p a b s\ncase rest 0 0 0 0 0 0\n",
+            ),
+            (Status::Refused, "", UNBUILT),
+        ),
+        (
+            &["analyse"],
+            (
+                HEAD,
+                "node b 1000000 1000000 0\nstraight p a b s\nanchor A a - -\ncase rest 0 0 0 0 0 0\n",
+            ),
+            (Status::Refused, "", UNBUILT),
+        ),
+        (
+            &["analyse"],
+            (
+                HEAD,
+                "node b 1000000 0 0\nanchor A a - -\ncase rest 0 0 0 0 0 0\n",
+            ),
+            (Status::Refused, "", UNBUILT),
+        ),
+        (
+            &["analyse"],
+            (
+                HEAD,
+                "node b 1000000 0 0\nstraight p a b s\nlinear A a 1 0 0 -\ncase rest 0 0 0 0 0 0\n",
+            ),
+            (Status::Refused, "", UNBUILT),
+        ),
+    ];
+    for (words, text, want) in rows {
+        answers(&rt, rt.alloc(), words, text, want)?;
+    }
+    Ok(())
+}
+
+#[test]
+fn analyses_one_straight(rt: HostRuntime) -> Result<(), Fail> {
+    let rows: [Row; 10] = [
+        // Reports on one straight.
+        (
+            &["analyse"],
+            (STRAIGHT, CANTILEVER),
+            (Status::Done, CANTILEVER_REPORT, ""),
+        ),
+        (
+            &["analyse", "--workers", "7"],
+            (STRAIGHT, CANTILEVER),
+            (Status::Done, CANTILEVER_REPORT, ""),
+        ),
+        (
+            &["analyse"],
+            (STRAIGHT, "anchor A a - -\ncase rest 0 0 0 0 0 0\n"),
+            (Status::Done, REST_REPORT, ""),
+        ),
+        (
+            &["analyse", "--workers", "7"],
+            (STRAIGHT, "anchor A a - -\ncase rest 0 0 0 0 0 0\n"),
+            (Status::Done, REST_REPORT, ""),
+        ),
+        (
+            &["analyse"],
+            (
+                STRAIGHT,
+                "anchor A a - -\nanchor B b - -\ncase tip 0 0 0 0 0 0\nforce tip b 0 0 -1000000 0 0 0\n",
+            ),
+            (Status::Done, HELD_REPORT, ""),
+        ),
+        (
+            &["analyse", "--workers", "7"],
+            (
+                STRAIGHT,
+                "anchor A a - -\nanchor B b - -\ncase tip 0 0 0 0 0 0\nforce tip b 0 0 -1000000 0 0 0\n",
+            ),
+            (Status::Done, HELD_REPORT, ""),
+        ),
+        (
+            &["analyse"],
+            (
+                STRAIGHT,
+                "anchor A a 2000000000000 -\ncase rest 0 0 0 0 0 0\n",
+            ),
+            (
+                Status::Uncertified,
+                "pipeflex report 1\nmodel 2 1 1 1 0\ncase rest uncertified width matrix a ux\nend\n",
+                "",
+            ),
+        ),
+        (
+            &["analyse", "--workers", "7"],
+            (
+                STRAIGHT,
+                "anchor A a 2000000000000 -\ncase rest 0 0 0 0 0 0\n",
+            ),
+            (
+                Status::Uncertified,
+                "pipeflex report 1\nmodel 2 1 1 1 0\ncase rest uncertified width matrix a ux\nend\n",
+                "",
+            ),
+        ),
+        (
+            &["analyse"],
+            (
+                STRAIGHT,
+                "anchor A a - -\ncase tip 0 0 0 0 0 0\nforce tip b 0 0 1000000000000 0 0 0\n",
+            ),
+            (
+                Status::Uncertified,
+                "pipeflex report 1\nmodel 2 1 1 1 0\ncase tip uncertified width load b uz\nend\n",
+                "",
+            ),
+        ),
+        (
+            &["analyse", "--workers", "7"],
+            (
+                STRAIGHT,
+                "anchor A a - -\ncase tip 0 0 0 0 0 0\nforce tip b 0 0 1000000000000 0 0 0\n",
+            ),
+            (
+                Status::Uncertified,
+                "pipeflex report 1\nmodel 2 1 1 1 0\ncase tip uncertified width load b uz\nend\n",
+                "",
+            ),
+        ),
+    ];
+    for (words, text, want) in rows {
+        answers(&rt, rt.alloc(), words, text, want)?;
     }
     Ok(())
 }
@@ -215,189 +481,9 @@ fn refuses_texts(rt: HostRuntime) -> Result<(), Fail> {
         ),
         ("pipeflex 1\nbend b\n", "refused 17 line 2 unbuilt\n"),
     ] {
-        check(
-            &rt,
-            rt.alloc(),
-            &["members"],
-            text,
-            Status::Refused,
-            "",
-            line,
-        )?;
-        check(&rt, rt.alloc(), &["echo"], text, Status::Refused, "", line)?;
-    }
-    Ok(())
-}
-
-#[test]
-fn judges_one_more_line(rt: HostRuntime) -> Result<(), Fail> {
-    for (lines, line) in [
-        ("node b 30000000 0 0\nstraight p a b s\n", None),
-        (
-            "node b 30000001 0 0\nstraight p a b s\n",
-            Some("refused 11 line 6 longelement\n"),
-        ),
-        (
-            "node b 0 0 0\nstraight p a b s\n",
-            Some("refused 10 line 6 zerolength\n"),
-        ),
-        ("node a 1 1 1\n", Some("refused 8 line 5 doubled\n")),
-        (
-            "section t st 100000 50000 0 0\n",
-            Some("refused 13 line 5 walltoothick\n"),
-        ),
-    ] {
-        let mut text = HEAD.to_string(rt.alloc())?;
-        text.push_str(lines)?;
-        match line {
-            Some(line) => check(
-                &rt,
-                rt.alloc(),
-                &["echo"],
-                text.as_str(),
-                Status::Refused,
-                "",
-                line,
-            )?,
-            None => check(
-                &rt,
-                rt.alloc(),
-                &["echo"],
-                text.as_str(),
-                Status::Done,
-                text.as_str(),
-                "",
-            )?,
-        }
-    }
-    Ok(())
-}
-
-#[test]
-fn echoes_the_canonical_text(rt: HostRuntime) -> Result<(), Fail> {
-    let slanted = "\
-pipeflex 1
-material st 200000 300 12000 7850
-section s st 100000 10000 0 0
-node a 0 0 0
-node b 1000000 1000000 0
-straight p a b s
-";
-    let loose = "# a line\n\tpipeflex  1 # the header
-node a 0 0 0
-node\tb 1000000 1000000 0 \t# slanted
-
-material st 200000 300 12000 7850
-section s st 100000 10000 0 0
-straight p a b s";
-    check(
-        &rt,
-        rt.alloc(),
-        &["echo"],
-        slanted,
-        Status::Done,
-        slanted,
-        "",
-    )?;
-    check(&rt, rt.alloc(), &["echo"], loose, Status::Done, slanted, "")
-}
-
-// A cantilever: 1 m of pipe of 100 mm by 10 mm with E of 200,000 MPa, fixed at a, and F = 1,000 N down at b. With
-// I = pi (100^4 - 80^4) / 64 = 2,898,119.2 mm^4 the textbook has F L^3 / 3 E I = 575,085.6 nm and
-// F L^2 / 2 E I = 862,628.4 nrad. The anchor, of K = 10^10 N/m and N m/rad, adds its movement F / K = 100 nm and its rotation
-// F L / K = 100 nrad, which lowers the tip by 100 nm more: 575,285.6 nm and 862,728.4 nrad together.
-const CANTILEVER: &str = "\
-anchor A a - -
-case tip 0 0 0 0 0 0
-force tip b 0 0 -1000000 0 0 0
-";
-
-#[test]
-fn analyses_one_straight(rt: HostRuntime) -> Result<(), Fail> {
-    for (lines, status, cases) in [
-        (CANTILEVER, Status::Done, CANTILEVER_LINES),
-        (
-            "anchor A a - -\ncase rest 0 0 0 0 0 0\n",
-            Status::Done,
-            REST_LINES,
-        ),
-        (
-            "anchor A a - -\nanchor B b - -\ncase tip 0 0 0 0 0 0\nforce tip b 0 0 -1000000 0 0 0\n",
-            Status::Done,
-            HELD_LINES,
-        ),
-        (
-            "anchor A a 2000000000000 -\ncase rest 0 0 0 0 0 0\n",
-            Status::Uncertified,
-            "1 1 0\ncase rest uncertified width matrix a ux\n",
-        ),
-        (
-            "anchor A a - -\ncase tip 0 0 0 0 0 0\nforce tip b 0 0 1000000000000 0 0 0\n",
-            Status::Uncertified,
-            "1 1 0\ncase tip uncertified width load b uz\n",
-        ),
-    ] {
-        let text = format!(in rt.alloc(); "{STRAIGHT}{lines}")?;
-        let report = format!(in rt.alloc(); "pipeflex report 1\nmodel 2 1 {cases}end\n")?;
-        let (text, report) = (text.as_str(), report.as_str());
-        let words: [&[&str]; 2] = [&["analyse"], &["analyse", "--workers", "7"]];
-        for words in words {
-            check(&rt, rt.alloc(), words, text, status, report, "")?;
-        }
-    }
-    Ok(())
-}
-
-#[test]
-fn refuses_to_analyse(rt: HostRuntime) -> Result<(), Fail> {
-    for lines in [
-        "node b 1000000 0 0\nstraight p a b s\nanchor A a - -\n",
-        "node b 1000000 0 0\nstraight p a b s\ncase rest 0 0 0 0 0 0\n",
-        "node b 1000000 1000000 0\nstraight p a b s\nanchor A a - -\ncase rest 0 0 0 0 0 0\n",
-        "node b 1000000 0 0\nanchor A a - -\ncase rest 0 0 0 0 0 0\n",
-        "node b 1000000 0 0\nstraight p a b s\nlinear A a 1 0 0 -\ncase rest 0 0 0 0 0 0\n",
-    ] {
-        let text = format!(in rt.alloc(); "{HEAD}{lines}")?;
-        check(
-            &rt,
-            rt.alloc(),
-            &["analyse"],
-            text.as_str(),
-            Status::Refused,
-            "",
-            UNBUILT,
-        )?;
-    }
-    Ok(())
-}
-
-#[test]
-fn refuses_a_text_over_the_limit(rt: HostRuntime) -> Result<(), Fail> {
-    let mut source = SafeSource::new(vec![in rt.alloc(); b' '; 4_194_306]?);
-    let mut out = SafeSink::new(rt.alloc(), 0)?;
-    let mut err = SafeSink::new(rt.alloc(), 100)?;
-    let status = ended(
-        &rt,
-        rt.alloc(),
-        &["members"],
-        &mut source,
-        &mut out,
-        &mut err,
-    )?;
-    assert_eq!(rt; status, Status::Refused);
-    assert_eq!(rt; err.bytes(), b"refused 1 line 1 toolong\n".as_slice());
-
-    // The byte past the limit is read, and none behind it.
-    let rest = take_all(rt.alloc(), &mut source, 10)?;
-    assert_eq!(rt; rest.len(), 1);
-    Ok(())
-}
-
-#[test]
-fn ends_at_a_fault_of_a_sink(rt: HostRuntime) -> Result<(), Fail> {
-    for (text, room) in [(STRAIGHT, [TABLE.len() - 1, 0]), ("", [0, 23])] {
-        let found = answered(&rt, rt.alloc(), &["members"], text, room)?;
-        assert_eq!(rt; found.status, Status::WriteFault, "{text}");
+        let want = (Status::Refused, "", line);
+        answers(&rt, rt.alloc(), &["members"], (text, ""), want)?;
+        answers(&rt, rt.alloc(), &["echo"], (text, ""), want)?;
     }
     Ok(())
 }
@@ -419,20 +505,16 @@ impl Read for Breaking {
 }
 
 #[test]
-fn ends_at_a_fault_of_the_source(rt: HostRuntime) -> Result<(), Fail> {
+fn ends_at_a_limit_and_at_a_fault_of_the_source(rt: HostRuntime) -> Result<(), Fail> {
+    let line = line_of(rt.alloc(), &["members"])?;
+    let mut source = SafeSource::new(vec![in rt.alloc(); b' '; 4_194_306]?);
+    let toolong = (Status::Refused, "", "refused 1 line 1 toolong\n");
+    ends(&rt, rt.alloc(), &line, &mut source, toolong)?;
+    // The byte past the limit is read, and none behind it.
+    let rest = take_all(rt.alloc(), &mut source, 10)?;
+    assert!(rt; rest.len() == 1);
+
     let mut source = StdSource::new(Breaking { is_begun: false });
-    let mut out = SafeSink::new(rt.alloc(), 100)?;
-    let mut err = SafeSink::new(rt.alloc(), 100)?;
-    let status = ended(
-        &rt,
-        rt.alloc(),
-        &["members"],
-        &mut source,
-        &mut out,
-        &mut err,
-    )?;
-    assert_eq!(rt; status, Status::ReadFault);
-    assert_eq!(rt; out.bytes(), b"".as_slice());
-    assert_eq!(rt; err.bytes(), b"read fault\n".as_slice());
-    Ok(())
+    let fault = (Status::ReadFault, "", "read fault\n");
+    ends(&rt, rt.alloc(), &line, &mut source, fault)
 }
