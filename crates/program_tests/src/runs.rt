@@ -39,6 +39,7 @@ end
 ";
 
 // The lower ends are A E / L, G J / L, E I / L and 12 E I / L^3 of the square root of 2 m, in 1 / 2^20 N/m and N m, rounded down.
+// Worked out from the definitions by a few lines of Python.
 const SLANTED_TABLE: &str = "\
 pipeflex members 1
 element q straight 8
