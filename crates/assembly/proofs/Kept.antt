@@ -69,9 +69,6 @@ keeps_from b km rd km_new rd_new row col v w order puts puts_too here =
           ];
     }
 
-pub keeps_all : (b : Built) (km rd : Matrix) → KeepsFilled b km rd km rd
-keeps_all b km rd = record { middles_pattern = refl; radii_pattern = refl; filled = λ i j up was. was }
-
 pub keeps_more : (b : Built) (km rd km_then rd_then km_new rd_new : Matrix) → KeepsFilled b km rd km_then rd_then → KeepsFilled b km_then rd_then km_new rd_new →
     KeepsFilled b km rd km_new rd_new
 keeps_more b km rd km_then rd_then km_new rd_new first second =

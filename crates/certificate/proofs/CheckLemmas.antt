@@ -178,9 +178,6 @@ pub record PassBelow (t : CholeskyTest) (n lambda : ℕ) : Type 0 where
   pub least : (i : ℕ) → i < n → pos lambda ≤ℤ int_div_euclid (row_margin t i) t.scale
   pub reached : ((n ≡ 0) × (2 ^ 127 ≤ lambda)) ⊎ ((lambda < 2 ^ 127) × ((i : ℕ) × (i < n) × (int_div_euclid (row_margin t i) t.scale ≡ pos lambda)))
 
-pub pass-none : (t : CholeskyTest) (lambda : ℕ) → 2 ^ 127 ≤ lambda → PassBelow t 0 lambda
-pass-none t lambda large = record { passed = λ i h _. absurd (omega arith); least = λ i h. absurd (omega arith); reached = inl (refl, large) }
-
 pub pass-more : (t : CholeskyTest) (n lambda m : ℕ) → t.scale ≡ pos (2 ^ 52) → PassBelow t n lambda → (RowIsRefused t n → ⊥) → pos m ≡ row_margin t n → m < 2 ^ 128 →
     PassBelow t (n + 1) (min lambda (m / 2 ^ 52))
 pass-more t n lambda m scale before passes margin small =

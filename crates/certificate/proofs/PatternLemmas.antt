@@ -10,9 +10,6 @@ use Rattle.factor_data.proofs.OrderLemmas.{spread-rising, length-rising, sum-pat
 pub pattern-spread : (m : SymMatrix) (n : ℕ) → IsSymmetricByBlocks m → IsSpread (pattern_of m n) (node_count m)
 pattern-spread m n kept = spread-rising (pattern_of m n) (node_count m) (kept.rising n) (kept.in_range n)
 
-pub pattern-length : (m : SymMatrix) (n : ℕ) → IsSymmetricByBlocks m → length (pattern_of m n) ≤ node_count m
-pattern-length m n kept = length-rising (pattern_of m n) (node_count m) (kept.rising n) (kept.in_range n)
-
 -- each node has six rows below 2^32
 pub pattern-numbered : (m : SymMatrix) (n : ℕ) → IsSymmetricByBlocks m → 6 * node_count m ≤ 2 ^ 32 → All (λ node. 6 * node + 6 ≤ 2 ^ 32) (pattern_of m n)
 pattern-numbered m n kept numbered k d inside = omega (arith, kept.in_range n (get_or (pattern_of m n) k d) (k, inside, get_or_default (pattern_of m n) k (get_or (pattern_of m n) k d) d inside))

@@ -57,10 +57,6 @@ pub sum-order : (order : List ℕ) (f : ℕ → ℤ) → IsOrder order → sum_b
 sum-order order f ordered =
     sum-pattern order (length order) f ordered.spread (λ j inside none. absurd (none (ordered.complete (j / 6) (omega arith))))
 
-pub position-in : (order : List ℕ) (n c : ℕ) → IsOrder order → length order ≡ n → c < 6 * n → freedom_at order c < 6 * n
-position-in order n c ordered same inside =
-    let below = column-below order (length order) c ordered.spread (omega (arith, same)) in omega (arith, below, same)
-
 pub positions-apart : (order : List ℕ) (n a b : ℕ) → IsOrder order → length order ≡ n → a < 6 * n → b < 6 * n → freedom_at order a ≡ freedom_at order b → a ≡ b
 positions-apart order n a b ordered same pa pb e = column-apart order (length order) a b ordered.spread (omega (arith, same)) (omega (arith, same)) e
 

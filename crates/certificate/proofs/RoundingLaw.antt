@@ -79,9 +79,6 @@ pub ceiling_not_negative : (n d : ℤ) → pos 0 <ℤ d → pos 0 ≤ℤ n → p
 ceiling_not_negative n d d_up n_up =
     le_of_mul d (pos 0) (ceil_of n d) d_up (omega (arith, int_sums, (ceil_of-is n d d_up).at_least, zero-mul d, n_up))
 
-power_40 : pos (2 ^ 40) ≡ pos (2 ^ 20) *ℤ pos (2 ^ 20)
-power_40 = refl
-
 pub rounded_radii_are_enough : RoundedRadiiAreEnough
 rounded_radii_are_enough b lambda size one size_up stiff =
     let lambda_up : pos 0 <ℤ lambda = omega (arith, int_sums, one) in

@@ -24,9 +24,6 @@ pub record AreColumnsTo (panels : List Panel) (column : ℕ) (rows : List (List 
   pub rows_are : (j : ℕ) → j < column → AreColumnRows (nodes_at panels (j / 6)) (j % 6) (list_of rows j)
   pub values_are : (j : ℕ) → j < column → AreColumnValues (entries_at panels (j / 6)) (j % 6) (list_of values j)
 
-pub columns_none : (panels : List Panel) → AreColumnsTo panels 0 [] []
-columns_none panels = record { rows_count = refl; values_count = refl; rows_are = λ j lt. absurd (omega arith); values_are = λ j lt. absurd (omega arith) }
-
 pub columns_more : (panels : List Panel) (column : ℕ) (rows : List (List ℕ)) (values : List (List ℤ)) (r : List ℕ) (v : List ℤ) → AreColumnsTo panels column rows values → AreColumnRows (nodes_at panels (column / 6)) (column % 6) r → AreColumnValues (entries_at panels (column / 6)) (column % 6) v → AreColumnsTo panels (column + 1) (rows ++ r ∷ []) (values ++ v ∷ [])
 columns_more panels column rows values r v c rs vs =
     record {

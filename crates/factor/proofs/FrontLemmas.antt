@@ -7,13 +7,6 @@ use Rattle.factor_data.specs.Order.{IsOrder}
 use Rattle.factor.specs.Front.{InsertsLater}
 use Rattle.factor.specs.State.{IsInverse}
 
-pub inserts_none : (xs : List ℕ) (least : ℕ) → IsRising xs → InsertsLater xs xs [] least
-inserts_none xs least up =
-    record {
-      rising = up;
-      members = λ x. (λ h. inl h, λ h. elim h [ inl old ↦ old | inr ((k, lt, is), above) ↦ absurd (omega arith) ]);
-    }
-
 pub inserts_more : (old cur new ns : List ℕ) (y least : ℕ) → InsertsLater old cur ns least → IsRising new → ((x : ℕ) → Contains new x ↔ (Contains cur x ⊎ (x ≡ y))) → least < y → InsertsLater old new (ns ++ y ∷ []) least
 inserts_more old cur new ns y least done up members above =
     record {

@@ -66,20 +66,6 @@ position-of_row order j ordered inside =
     let place = ap (place_of order) node ∙ place-at order (j / 6) ordered (omega arith) in
     omega (arith, place)
 
-pub position-apart : (order : List ℕ) (a b : ℕ) → IsOrder order → a < 6 * length order → b < 6 * length order →
-    position_of order a ≡ position_of order b → a ≡ b
-position-apart order a b ordered pa pb e =
-    sym (row-of_position order a ordered pa) ∙ ap (freedom_at order) e ∙ row-of_position order b ordered pb
-
--- a sum over the rows is one over the positions
-pub sum-positions : (order : List ℕ) (f : ℕ → ℤ) → IsOrder order →
-    sum_below (6 * length order) (λ row. f (position_of order row)) ≡ sum_below (6 * length order) f
-sum-positions order f ordered =
-    sum_below-reindexed (6 * length order) (6 * length order) (position_of order) f
-    (λ s h. position-below order s ordered h)
-    (λ s t hs ht e. position-apart order s t ordered hs ht e)
-    (λ j h. inr (freedom_at order j, row-below order j ordered h, position-of_row order j ordered h))
-
 -- ---- the columns of a pattern
 pub column-below : (nodes : List ℕ) (n s : ℕ) → IsSpread nodes n → s < 6 * length nodes → freedom_at nodes s < 6 * n
 column-below nodes n s spread inside = omega (arith, spread.in_range (s / 6) (omega arith))

@@ -33,9 +33,6 @@ root_within-is (suc rounds) n h =
           stepped-is n r inner.at_most inner.next_above
     ] refl
 
-pub nat_root_unique : {n p q : ℕ} → IsNatRoot n p → IsNatRoot n q → p ≡ q
-nat_root_unique {n} {p} {q} f g = grind (arith, f.at_most, f.next_above, g.at_most, g.next_above)
-
 square_below : (k r : ℕ) → k * k < (r + 1) * (r + 1) → k ≤ r
 square_below k r h = grind arith
 

@@ -158,18 +158,6 @@ adding-end m case n f loads few is a =
         same_total m case row n (load_of loads row) few (force_on-other_node m case row n f is off) (a.rest row inside (apart f.node.0 row off))
 
 -- ---- all forces
-pub no_totals : (m : Lists) (case : ℕ) (loads : List Ends) → length loads ≡ 6 * length m.nodes → ((row : ℕ) → load_of loads row ≡ nothing) → AreTotals m case 0 loads
-no_totals m case loads one_each none =
-    record {
-      one_each = one_each;
-      total = λ row inside. rw none
-          (record {
-            value = refl;
-            within = record { defined = omega (arith, ints); at_least = omega (arith, ints); at_most = omega (arith, ints) };
-            size = record { lo_most = omega (arith, ints); hi_most = omega (arith, ints) };
-          });
-    }
-
 row_load-is : (m : Lists) (case row : ℕ) (loads : List Ends) → AreTotals m case (length m.forces) loads → row < 6 * length m.nodes → row_load m case row ≡ limited_force (load_of loads row)
 unfolding row_load
 row_load-is m case row loads t inside = rw (t.total row inside).value refl

@@ -152,9 +152,6 @@ term_reads {d} {length} l {kappa} {x} {y} {n} {q} {v} {w} k a b =
     (entry_denominator_positive l q k.positive)
     (balance.term_balance n v w q (square_of d) length.den length.num l.square)
 
-three_read : {f : Axis → Fraction} {g : Axis → ℤ} {q : ℤ} → ((e : Axis) → Reads (f e) (g e) q) → Reads (over_axes f) (sum_of g) q
-three_read h = reads_plus (reads_plus (h x_axis) (h y_axis)) (h z_axis)
-
 members_read : {d : Span} {length : Fraction} → IsLengthOf d length → (tube : Tube) (pi : Fraction) (n : Numerators) (q : ℤ) →
     ((mode : Mode) → Reads (stiffness_of tube d pi length mode) (numerator_of n mode) q) →
     (p : End) (m : Motion) (i : Axis) (o : End) (r : Motion) (k : Axis) →

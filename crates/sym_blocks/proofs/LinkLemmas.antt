@@ -66,11 +66,3 @@ LinksLists-append a b c ps qs f g =
             ]),
       );
     }
-
-pub LinksLists-none : (a : List (List ℕ)) → ((n : ℕ) → IsRising (list_of a n)) → LinksLists a a []
-LinksLists-none a up =
-    record {
-      nodes = refl;
-      rising = up;
-      members = λ x y. (λ h. inl h, λ h. elim h [ inl old ↦ old | inr (inl (i, lt, is)) ↦ absurd (omega arith) | inr (inr (i, lt, is)) ↦ absurd (omega arith) ]);
-    }

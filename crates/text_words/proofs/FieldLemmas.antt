@@ -26,34 +26,3 @@ split_from_some end bytes at h =
           let first = position-Some (λ b. b == end) bytes at d h in
           rw get_or-take (first.2 k before);
     }
-
-found_after : (end : ℕ) (front rest : List ℕ) → Lacks end front → position (λ b. b == end) (front ++ end ∷ rest) ≡ Some (length front)
-found_after end front rest lacks =
-    let p : ℕ → Bool = λ b. b == end in
-    let bytes : List ℕ = front ++ end ∷ rest in
-    let longer : length bytes ≡ length front + suc (length rest) = length-append front (end ∷ rest) in
-    let first : position_or_len p bytes ≡ length front =
-    position_or_len_is p bytes (length front) 0 (omega arith) (λ k before. rw (get_or_append_left front (end ∷ rest) 0 k before) (lacks k 0 before)) (λ inside. rw (get_or-append_seam front end rest 0) (eq-eqb end end refl)) in
-    rw first (cond-true (nat_lt (length front) (length bytes)) _ _ (lt-ltb (length front) (length bytes) (omega arith)))
-
--- the parts round a place
-abbrev parts_at : List ℕ → ℕ → List ℕ × List ℕ
-parts_at xs at = (take at xs, drop (at + 1) xs)
-
--- the parts round the first such byte are found
-pub split_at_first-IsSplit : (end : ℕ) (bytes front rest : List ℕ) → IsSplit end bytes front rest → split_at_first end bytes ≡ Some (front, rest)
-split_at_first-IsSplit end bytes front rest is =
-    ap (split_at_first end) is.whole ∙ ap (option_map (parts_at (front ++ end ∷ rest))) (found_after end front rest is.lacks)
-    ∙ rw (take-append_seam front (end ∷ rest), drop-append-add front (end ∷ rest) 1) refl
-
-found_parts : (end : ℕ) (bytes front rest : List ℕ) (o : Option ℕ) → position (λ b. b == end) bytes ≡ o → option_map (parts_at bytes) o ≡ Some (front, rest) → IsSplit end bytes front rest
-found_parts end bytes front rest None e h = absurd (cc)
-found_parts end bytes front rest (Some at) e h =
-    let parts : parts_at bytes at ≡ (front, rest) = cc h in
-    let front_is : take at bytes ≡ front = ap (λ (x : List ℕ × List ℕ). x.0) parts in
-    let rest_is : drop (at + 1) bytes ≡ rest = ap (λ (x : List ℕ × List ℕ). x.1) parts in
-    rw (← front_is, ← rest_is) (split_from_some end bytes at e)
-
--- what is found are the parts round the first such byte
-pub IsSplit-split_at_first : (end : ℕ) (bytes front rest : List ℕ) → split_at_first end bytes ≡ Some (front, rest) → IsSplit end bytes front rest
-IsSplit-split_at_first end bytes front rest h = found_parts end bytes front rest (position (λ b. b == end) bytes) refl h
