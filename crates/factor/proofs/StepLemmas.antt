@@ -1,5 +1,7 @@
 -- The panels and their users, one node after another.
 use Rattle.std.proofs.Common.{◌≡◌, ℕ, ◌+◌, ◌*◌, ◌/◌, ◌%◌, ◌<◌, List, [], ◌∷◌, ◌++◌, Option, length, get_or, map, Contains, ◌∙◌, sym, ap, arith, subst, inl, inr, ◌^◌, ◌≤ℤ◌, to_z, of_z, ℤ, pos, cond}
+use Rattle.std.specs.Prelude.{Result, IsErrAnd, MatchResult}
+use Rattle.std.proofs.lemmas.Result.{err_from_is_err_and}
 use Rattle.std.proofs.lemmas.Bool.{cases_lt, lt-ltb, le-ltb}
 use Rattle.std.proofs.lemmas.List.{get_or_append_left, get_or_push, length_push, length-map, map_push}
 use Rattle.rising_list.specs.Lists.{list_of}
@@ -109,11 +111,12 @@ factor_is a order parents panels f p c =
       passes = λ d lt. (p.known d lt).passes;
     }
 
--- want of memory
-pub no_memory : (a : ℕ → ℕ → ℤ) (order : List ℕ) (parents : List (Option ℕ)) (fault : ScalarFault) → fault ≡ NoMemory → IsBreakdown a order parents fault
-no_memory a order parents fault e =
+-- the exit of a `?` where memory ran out is a breakdown
+pub no_memory : (a : ℕ → ℕ → ℤ) (order : List ℕ) (parents : List (Option ℕ)) (r : Result Columns ScalarFault) → IsErrAnd r (λ fault. fault ≡ NoMemory) → MatchResult r (IsFactorOf a order parents) (IsBreakdown a order parents)
+no_memory a order parents r out =
+    let p = err_from_is_err_and r out in
     let P : ScalarFault → Type 0 = λ f. IsBreakdown a order parents f in
-    subst P (sym e) (0, omega arith, tt)
+    rw p.1 (subst P (sym p.2) (0, omega arith, tt))
 
 -- the shift, as it is kept
 pub shift_is : (s : ℤ) → pos 0 ≤ℤ s → s ≤ℤ pos (2 ^ 44) → to_z w128 (of_z w128 s) ≡ s

@@ -1,4 +1,4 @@
-use Rattle.std.proofs.Common.{◌≡◌, ◌<◌, ◌∙◌, ap, sym, arith, ℕ, pos, ◌^◌, ◌-ℤ◌, ◌*ℤ◌, cond}
+use Rattle.std.proofs.Common.{◌≡◌, ◌<◌, ◌∙◌, ap, sym, arith, ℕ, pos, ◌^◌, ◌-ℤ◌, ◌*ℤ◌, cond, ℤ, List}
 use Rattle.std.specs.Int.RustNames.{unsigned_abs}
 use Rattle.std.proofs.lemmas.Int.{ints}
 use Rattle.std.proofs.lemmas.List.{get_or_default}
@@ -9,6 +9,10 @@ use Rattle.cholesky_laws.specs.Recurrence.{scaled, freedom_at}
 use Rattle.factor.proofs.CastLemmas.{scaled_less, scaled_whole}
 use Rattle.factor.proofs.load.scaled_entry.Goals as goal
 
+-- an entry that is read at the freedoms of two positions
+entry_read : {z : ℤ} {row column : ℕ} (km : ℕ → ℕ → ℤ) (order : List ℕ) (i j : ℕ) → z ≡ km row column → row ≡ freedom_at order i → column ≡ freedom_at order j → z ≡ km (freedom_at order i) (freedom_at order j)
+entry_read km order i j read at_row at_column = cc
+
 pub returns-then-i-j : goal.returns-then-i-j
 unfolding scaled
 returns-then-i-j c =
@@ -16,9 +20,7 @@ returns-then-i-j c =
     let km = entry p.matrix.now in
     let i = c.args.i in
     let j = c.args.j in
-    let at : c.get-stiffness.result ≡ km (freedom_at p.order.now i) (freedom_at p.order.now j) =
-    c.get-stiffness.ensures.value ∙ ap (λ (x : ℕ). km x c.freedom-2.result) c.freedom.ensures ∙ ap (λ (x : ℕ). km (freedom_at p.order.now i) x) c.freedom-2.ensures
-    in
+    let at = entry_read km p.order.now i j c.get-stiffness.ensures.value c.freedom.ensures c.freedom-2.ensures in
     let small : unsigned_abs c.get-stiffness.result < 2 ^ 60 = rw at (c.requires.problem.small (freedom_at p.order.now i) (freedom_at p.order.now j)) in
     scaled_less c.get-stiffness.result p.shift small (omega (arith, int_sums, c.requires.problem.shift_low, c.requires.problem.shift_high))
     ∙ ap (λ z. pos (2 ^ 52) *ℤ (z -ℤ p.shift)) at
@@ -31,9 +33,7 @@ returns-else-i-j c =
     let km = entry p.matrix.now in
     let i = c.args.i in
     let j = c.args.j in
-    let at : c.get-stiffness.result ≡ km (freedom_at p.order.now i) (freedom_at p.order.now j) =
-    c.get-stiffness.ensures.value ∙ ap (λ (x : ℕ). km x c.freedom-2.result) c.freedom.ensures ∙ ap (λ (x : ℕ). km (freedom_at p.order.now i) x) c.freedom-2.ensures
-    in
+    let at = entry_read km p.order.now i j c.get-stiffness.ensures.value c.freedom.ensures c.freedom-2.ensures in
     let small : unsigned_abs c.get-stiffness.result < 2 ^ 60 = rw at (c.requires.problem.small (freedom_at p.order.now i) (freedom_at p.order.now j)) in
     scaled_whole c.get-stiffness.result small
     ∙ ap (λ z. pos (2 ^ 52) *ℤ (z -ℤ pos 0)) at

@@ -13,7 +13,6 @@ use Rattle.factor.specs.Columns.{HasColumns, ListsInAll}
 use Rattle.factor.specs.Scalar.{IsBreakdownAt}
 use Rattle.factor.specs.declared.panel.Panel.{Panel}
 use Rattle.factor.specs.declared.fault.ScalarFault.{ScalarFault}
-use Rattle.factor.specs.declared.fault.ScalarFault.TheVariants.{NoMemory}
 use Rattle.factor.proofs.StepLemmas.{no_memory, shift_is, panels_more, users_more, panel_shapes, factor_is}
 use Rattle.factor.proofs.recurrence.scalar.Goals as goal
 
@@ -50,15 +49,11 @@ list_in_all-requires-clause-rising c q =
 
 pub returns-in_err-list_in_all : goal.returns-in_err-list_in_all
 returns-in_err-list_in_all c =
-    let p = err_from_is_err_and c.from_residual-in_err-list_in_all.result c.from_residual-in_err-list_in_all.ensures.1 in
-    let e : p.0 ≡ NoMemory = p.2 in
-    rw p.1 (no_memory (matrix_of c.args.k.now c.args.order.now c.args.shift) c.args.order.now c.args.parents.now p.0 e)
+    no_memory (matrix_of c.args.k.now c.args.order.now c.args.shift) c.args.order.now c.args.parents.now c.from_residual-in_err-list_in_all.result c.from_residual-in_err-list_in_all.ensures.1
 
 pub returns-in_err-push : goal.returns-in_err-push
 returns-in_err-push c =
-    let p = err_from_is_err_and c.from_residual-in_err-push.result c.from_residual-in_err-push.ensures.1 in
-    let e : p.0 ≡ NoMemory = p.2 in
-    rw p.1 (no_memory (matrix_of c.args.k.now c.args.order.now c.args.shift) c.args.order.now c.args.parents.now p.0 e)
+    no_memory (matrix_of c.args.k.now c.args.order.now c.args.shift) c.args.order.now c.args.parents.now c.from_residual-in_err-push.result c.from_residual-in_err-push.ensures.1
 
 pub loop-node-preserved : goal.loop-node-preserved
 loop-node-preserved c =
@@ -89,9 +84,7 @@ columns-requires-clause-panels c =
 
 pub returns-in_err-columns : goal.returns-in_err-columns
 returns-in_err-columns c =
-    let p = err_from_is_err_and c.from_residual-in_err-columns.result c.from_residual-in_err-columns.ensures.1 in
-    let e : p.0 ≡ NoMemory = p.2 in
-    rw p.1 (no_memory (matrix_of c.args.k.now c.args.order.now c.args.shift) c.args.order.now c.args.parents.now p.0 e)
+    no_memory (matrix_of c.args.k.now c.args.order.now c.args.shift) c.args.order.now c.args.parents.now c.from_residual-in_err-columns.result c.from_residual-in_err-columns.ensures.1
 
 pub returns : goal.returns
 returns c =
@@ -126,21 +119,15 @@ eliminate_node-requires-clause-panels c = rw c.deref-in-loop-node.ensures.value 
 
 pub returns-in_err-places : goal.returns-in_err-places
 returns-in_err-places c =
-    let p = err_from_is_err_and c.from_residual.result c.from_residual.ensures.1 in
-    let e : p.0 ≡ NoMemory = p.2 in
-    rw p.1 (no_memory (matrix_of c.args.k.now c.args.order.now c.args.shift) c.args.order.now c.args.parents.now p.0 e)
+    no_memory (matrix_of c.args.k.now c.args.order.now c.args.shift) c.args.order.now c.args.parents.now c.from_residual.result c.from_residual.ensures.1
 
 pub returns-in_err-users : goal.returns-in_err-users
 returns-in_err-users c =
-    let p = err_from_is_err_and c.from_residual-in_err-users.result c.from_residual-in_err-users.ensures.1 in
-    let e : p.0 ≡ NoMemory = p.2 in
-    rw p.1 (no_memory (matrix_of c.args.k.now c.args.order.now c.args.shift) c.args.order.now c.args.parents.now p.0 e)
+    no_memory (matrix_of c.args.k.now c.args.order.now c.args.shift) c.args.order.now c.args.parents.now c.from_residual-in_err-users.result c.from_residual-in_err-users.ensures.1
 
 pub returns-in_err-panels : goal.returns-in_err-panels
 returns-in_err-panels c =
-    let p = err_from_is_err_and c.from_residual-in_err-panels.result c.from_residual-in_err-panels.ensures.1 in
-    let e : p.0 ≡ NoMemory = p.2 in
-    rw p.1 (no_memory (matrix_of c.args.k.now c.args.order.now c.args.shift) c.args.order.now c.args.parents.now p.0 e)
+    no_memory (matrix_of c.args.k.now c.args.order.now c.args.shift) c.args.order.now c.args.parents.now c.from_residual-in_err-panels.result c.from_residual-in_err-panels.ensures.1
 
 -- no panel is there yet, and no node is listed
 listed_none : (size q : ℕ) → AreUsers [] 0 q (list_of (replicate size []) q)
