@@ -5,7 +5,7 @@ use Rattle.std.proofs.Math.Nat.{pow-suc, mul-le-mul_left, mul-le-mul_right, mul_
 use Rattle.std.proofs.lemmas.Bool.{cases_lt}
 use Rattle.std.proofs.lemmas.Int.{unsigned_abs-mul}
 use Rattle.solve.specs.Substitution.{at}
-use Rattle.solve.specs.Refinement.{HasRoom}
+use Rattle.solve.specs.Refinement.{HasRoom, HasNoRoom}
 
 doubled : (digits : ℕ) → 2 ^ suc digits ≡ 2 ^ digits * 2
 doubled digits = pow-suc 2 digits
@@ -39,3 +39,11 @@ scaled-step most scaled digits is = rw (add-one digits, doubled digits, is) (mul
 -- a number with room, scaled
 pub room-scaled : (z : ℤ) (digits : ℕ) → unsigned_abs z * 2 ^ digits < 2 ^ 106 → unsigned_abs (z *ℤ pos (2 ^ digits)) < 2 ^ 106
 room-scaled z digits room = omega (arith, unsigned_abs-mul z (pos (2 ^ digits)), room)
+
+-- numbers whose largest size reaches 2^106 have no room
+pub no_room-reached : (r : List ℤ) (most : ℕ) → (most ≡ 0) ⊎ ((i : ℕ) × (i < length r) × (unsigned_abs (at r i) ≡ most)) → 2 ^ 106 ≤ most → HasNoRoom r
+no_room-reached r most reached large =
+    elim reached [
+      | inl none ↦ absurd (omega arith)
+      | inr found ↦ record { row = found.0; inside = found.1; large = rw found.2 large }
+    ]

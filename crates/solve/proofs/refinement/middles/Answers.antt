@@ -7,17 +7,17 @@ use Rattle.solve.specs.Refinement.{IsMiddle}
 use Rattle.std.proofs.lemmas.Result.{err_from_is_err_and}
 use Rattle.solve.proofs.refinement.middles.Goals as goal
 
-pub returns-in_err-member_forces-clause-none : goal.returns-in_err-member_forces-clause-none
-returns-in_err-member_forces-clause-none c =
+pub returns-in_err-member_forces : goal.returns-in_err-member_forces
+returns-in_err-member_forces c =
     let p = err_from_is_err_and c.from_residual.result c.from_residual.ensures.1 in
     let broken = c.in_err-member_forces.ensures.fault c.args.loads.now in
-    rw p.1 (record { row = broken.0; inside = broken.1; none = broken.2 })
+    rw p.1 (record { middles = tt; none = record { row = broken.0; inside = broken.1; none = broken.2 } })
 
-pub returns-in_err-residual_from-clause-none : goal.returns-in_err-residual_from-clause-none
-returns-in_err-residual_from-clause-none c =
+pub returns-in_err-residual_from : goal.returns-in_err-residual_from
+returns-in_err-residual_from c =
     let p = err_from_is_err_and c.from_residual-in_err-residual_from.result c.from_residual-in_err-residual_from.ensures.1 in
     let at_row = c.in_err-residual_from.ensures.at_displacements c.args.laws.now c.args.u.now c.in_ok-member_forces.ensures.forces in
-    rw p.1 (record { row = c.loop-row.row; inside = omega (arith, c.requires.one_middle_each); none = subst (λ (o : Outcome). IsErr o) at_row refl })
+    rw p.1 (record { middles = tt; none = record { row = c.loop-row.row; inside = omega (arith, c.requires.one_middle_each); none = subst (λ (o : Outcome). IsErr o) at_row refl } })
 
 pub loop-row-preserved : goal.loop-row-preserved
 loop-row-preserved c =

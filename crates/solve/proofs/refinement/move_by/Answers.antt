@@ -28,15 +28,15 @@ bounds-u-row c =
     let below = row-below c.args.order.now c.loop-j.j c.requires.order (omega (arith, c.requires.six_rows_each)) in
     omega (arith, below, c.row_at-row.ensures, c.requires.six_rows_each, c.requires.one_each)
 
-pub returns-in_err-u-clause-too_far : goal.returns-in_err-u-clause-too_far
-returns-in_err-u-clause-too_far c =
+pub returns-in_err-u : goal.returns-in_err-u
+returns-in_err-u c =
     let j = c.loop-j.j in
     let p = err_from_is_err_and c.from_residual.result c.from_residual.ensures.1 in
     let from_fits : FitsSigned w128 (get_or c.loop-j.u c.row_at-row.result (pos 0)) = search rules in
     let by_fits : FitsSigned w128 (get_or c.args.z.now j (pos 0)) = search rules in
     let was = c.loop-j.invariant.moving.rest j (omega arith) c.loop-j-test.true in
     let passes = rw (to_z-of_z from_fits, to_z-of_z by_fits, c.row_at-row.ensures, was) at c.in_err-u.ensures.passes in
-    rw p.1 (record { position = j; inside = c.loop-j-test.true; passes = passes })
+    rw p.1 (record { moved = tt; moderate = tt; too_far = record { position = j; inside = c.loop-j-test.true; passes = passes } })
 
 pub returns-clause-moved : goal.returns-clause-moved
 returns-clause-moved c = record { one_each = omega (arith, c.requires.one_each); sum = λ j below. c.loop-j.invariant.moving.moved j (omega arith) }

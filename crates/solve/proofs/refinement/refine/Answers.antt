@@ -20,16 +20,18 @@ loop-turn-preserved c =
       moderate = c.in_ok-turn.ensures.turned.moderate;
     }
 
-pub returns-in_err-turn-clause-wide : goal.returns-in_err-turn-clause-wide
-returns-in_err-turn-clause-wide c =
+pub returns-in_err-turn : goal.returns-in_err-turn
+returns-in_err-turn c =
     let p = err_from_is_err_and c.from_residual.result c.from_residual.ensures.1 in
-    rw p.1
-    (record {
-      turns = c.loop-turn._turn;
-      u = c.loop-turn.u;
-      before = c.loop-turn-test.true;
-      reached = c.loop-turn.invariant.lead;
-      breaks = c.in_err-turn.ensures.breaks;
+    rw p.1 (record {
+      candidate = tt;
+      wide = record {
+        turns = c.loop-turn._turn;
+        u = c.loop-turn.u;
+        before = c.loop-turn-test.true;
+        reached = c.loop-turn.invariant.lead;
+        breaks = c.in_err-turn.ensures.breaks;
+      };
     })
 
 pub returns-clause-candidate : goal.returns-clause-candidate

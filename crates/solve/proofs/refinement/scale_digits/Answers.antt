@@ -1,5 +1,5 @@
 use Rattle.std.proofs.Common.{arith}
-use Rattle.solve.proofs.Scaling.{scaled-step, scale-greatest, room-most}
+use Rattle.solve.proofs.Scaling.{scaled-step, scale-greatest, room-most, no_room-reached}
 use Rattle.solve.proofs.refinement.scale_digits.Goals as goal
 
 pub loop-digits-preserved : goal.loop-digits-preserved
@@ -9,6 +9,9 @@ loop-digits-preserved c =
       room = omega arith;
       at_most = omega arith;
     }
+
+pub returns-then-scaled-ge-ROOM-clause-no_room : goal.returns-then-scaled-ge-ROOM-clause-no_room
+returns-then-scaled-ge-ROOM-clause-no_room c = no_room-reached c.args.r.now c.largest-scaled.result c.largest-scaled.ensures.reached c.if-scaled-ge-ROOM.true
 
 pub returns-else-scaled-clause-scale : goal.returns-else-scaled-clause-scale
 returns-else-scaled-clause-scale c =

@@ -9,25 +9,27 @@ use Rattle.solve.proofs.OnBoth.{on_ok_both}
 use Rattle.solve.proofs.Solving.{forward-sides, forward_breaks-sides}
 use Rattle.solve.proofs.refinement.turn.Goals as goal
 
-pub returns-in_err-digits-clause-breaks : goal.returns-in_err-digits-clause-breaks
-returns-in_err-digits-clause-breaks c =
+pub returns-in_err-digits : goal.returns-in_err-digits
+returns-in_err-digits c =
     let p = err_from_is_err_and c.from_residual-in_err-digits.result c.from_residual-in_err-digits.ensures.1 in
-    rw p.1 (no_room c.middles.new.r c.in_ok-middles.ensures.middles c.in_err-digits.ensures.no_room)
+    rw p.1 (record { turned = tt; breaks = no_room c.middles.new.r c.in_ok-middles.ensures.middles c.in_err-digits.ensures.no_room })
 
-pub returns-in_err-forward-clause-breaks : goal.returns-in_err-forward-clause-breaks
-returns-in_err-forward-clause-breaks c =
+pub returns-in_err-forward : goal.returns-in_err-forward
+returns-in_err-forward c =
     let p = err_from_is_err_and c.from_residual-in_err-forward.result c.from_residual-in_err-forward.ensures.1 in
     let r = c.middles.new.r in
     let size = c.in_ok-middles.ensures.middles.one_each in
     let sides : (j : ℕ) → j < row_count c.args.b.now → value_at c.scale_sides.new.left j ≡ forward_side c.args.f.now.order r c.in_ok-digits.digits j =
     rw (← size, ← c.order.ensures.value) c.scale_sides.ensures.sides in
-    rw p.1
-    (forward_broad r c.in_ok-digits.digits c.in_ok-middles.ensures.middles c.in_ok-digits.ensures.scale
-    (forward_breaks-sides (length r) (row_count c.args.b.now) (entry c.args.f.now) (value_at c.scale_sides.new.left) (forward_side c.args.f.now.order r c.in_ok-digits.digits) size sides
-    c.in_err-forward.ensures.broad))
+    rw p.1 (record {
+      turned = tt;
+      breaks = forward_broad r c.in_ok-digits.digits c.in_ok-middles.ensures.middles c.in_ok-digits.ensures.scale
+          (forward_breaks-sides (length r) (row_count c.args.b.now) (entry c.args.f.now) (value_at c.scale_sides.new.left) (forward_side c.args.f.now.order r c.in_ok-digits.digits) size sides
+          c.in_err-forward.ensures.broad);
+    })
 
-pub returns-in_err-backward-clause-breaks : goal.returns-in_err-backward-clause-breaks
-returns-in_err-backward-clause-breaks c =
+pub returns-in_err-backward : goal.returns-in_err-backward
+returns-in_err-backward c =
     let p = err_from_is_err_and c.from_residual-in_err-backward.result c.from_residual-in_err-backward.ensures.1 in
     let n = row_count c.args.b.now in
     let r = c.middles.new.r in
@@ -36,9 +38,11 @@ returns-in_err-backward-clause-breaks c =
     let sides : (j : ℕ) → j < n → value_at c.scale_sides.new.left j ≡ forward_side c.args.f.now.order r digits j = rw (← size, ← c.order.ensures.value) c.scale_sides.ensures.sides in
     let solved = forward-sides (length r) n (entry c.args.f.now) (value_at c.scale_sides.new.left) (forward_side c.args.f.now.order r digits) c.forward.new.y size sides c.in_ok-forward.ensures.solved in
     let breaks : BackwardBreaks (length c.forward.new.y) (entry c.args.f.now) (backward_side c.forward.new.y digits) = c.in_err-backward.ensures.broad in
-    rw p.1
-    (backward_broad r digits c.forward.new.y c.in_ok-middles.ensures.middles c.in_ok-digits.ensures.scale solved
-    (subst (λ (m : ℕ). BackwardBreaks m (entry c.args.f.now) (backward_side c.forward.new.y digits)) solved.one_each breaks))
+    rw p.1 (record {
+      turned = tt;
+      breaks = backward_broad r digits c.forward.new.y c.in_ok-middles.ensures.middles c.in_ok-digits.ensures.scale solved
+          (subst (λ (m : ℕ). BackwardBreaks m (entry c.args.f.now) (backward_side c.forward.new.y digits)) solved.one_each breaks);
+    })
 
 pub returns-clause-turned : goal.returns-clause-turned
 returns-clause-turned c =

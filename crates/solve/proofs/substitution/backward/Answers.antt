@@ -19,8 +19,8 @@ gather-requires-clause-in_range c = λ k d inside.
     let below = spread.in_range k inside in
     rw (get_or_default c.column.result.0.now k d 0 inside, c.loop-j.invariant.one_each) below
 
-pub returns-in_err-numerator-clause-broad : goal.returns-in_err-numerator-clause-broad
-returns-in_err-numerator-clause-broad c =
+pub returns-in_err-numerator : goal.returns-in_err-numerator
+returns-in_err-numerator c =
     let p = err_from_is_err_and c.from_residual.result c.from_residual.ensures.1 in
     let n = length c.args.x.now in
     let j = c.loop-j.j - 1 in
@@ -38,13 +38,15 @@ returns-in_err-numerator-clause-broad c =
       gathered_size-whole (column_rows c.args.f.now j) (column_values c.args.f.now j) c.loop-j.x n j spread,
     ) at broad_here in
     let next : c.loop-j.j ≡ j + 1 = omega arith in
-    rw p.1
-    (record {
-      z = c.loop-j.x;
-      position = j;
-      inside = omega (arith, c.loop-j.invariant.not_past);
-      solved_after = subst (λ (m : ℕ). IsBackwardFrom n (entry c.args.f.now) (λ k. at c.args.x.now k *ℤ pos (2 ^ c.args.digits)) c.loop-j.x m) next c.loop-j.invariant.solved;
-      broad = broad;
+    rw p.1 (record {
+      solved = tt;
+      broad = record {
+        z = c.loop-j.x;
+        position = j;
+        inside = omega (arith, c.loop-j.invariant.not_past);
+        solved_after = subst (λ (m : ℕ). IsBackwardFrom n (entry c.args.f.now) (λ k. at c.args.x.now k *ℤ pos (2 ^ c.args.digits)) c.loop-j.x m) next c.loop-j.invariant.solved;
+        broad = broad;
+      };
     })
 
 pub loop-j-preserved : goal.loop-j-preserved

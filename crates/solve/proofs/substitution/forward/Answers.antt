@@ -17,8 +17,8 @@ scatter-requires-clause-in_range c = λ k d inside.
     let below = spread.in_range k inside in
     rw (get_or_default c.column.result.0.now k d 0 inside, c.loop-j.invariant.one_numerator_each) below
 
-pub returns-in_err-scatter-clause-broad : goal.returns-in_err-scatter-clause-broad
-returns-in_err-scatter-clause-broad c =
+pub returns-in_err-scatter : goal.returns-in_err-scatter
+returns-in_err-scatter c =
     let p = err_from_is_err_and c.from_residual.result c.from_residual.ensures.1 in
     let n = length c.args.y.now in
     let j = c.loop-j.j in
@@ -29,9 +29,11 @@ returns-in_err-scatter-clause-broad c =
     let is : c.over-unknown.result ≡ nearest_of (value_at c.loop-j.left j) (entry c.args.f.now j j) =
     rw (to_z-of_z diagonal_fits, c.get.ensures, left_is) at c.over-unknown.ensures in
     let beyond = rw (to_z-of_z fits, c.column.ensures.rows, c.column.ensures.values) at c.in_err-scatter.ensures.beyond in
-    rw p.1
-    (forward-breaks n (entry c.args.f.now) (value_at c.args.left.now) c.loop-j.left c.loop-j.y j c.over-unknown.result (column_rows c.args.f.now j) (column_values c.args.f.now j)
-    (omega arith) c.loop-j.invariant is (column-spread c.args.f.now n j c.column.ensures.kept c.requires.factor) (λ i. refl) beyond)
+    rw p.1 (record {
+      solved = tt;
+      broad = forward-breaks n (entry c.args.f.now) (value_at c.args.left.now) c.loop-j.left c.loop-j.y j c.over-unknown.result (column_rows c.args.f.now j) (column_values c.args.f.now j)
+          (omega arith) c.loop-j.invariant is (column-spread c.args.f.now n j c.column.ensures.kept c.requires.factor) (λ i. refl) beyond;
+    })
 
 pub loop-j-preserved : goal.loop-j-preserved
 loop-j-preserved c =

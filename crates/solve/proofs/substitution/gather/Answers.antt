@@ -19,22 +19,22 @@ loop-v-preserved c =
       size = gathered_size-step c.args.rows.now c.args.values.now c.args.x.now c.args.j c.loop-v.v (absolute (at c.args.x.now c.args.j *ℤ to_z w128 (of_z w128 c.args.scale))) _ _ c.loop-v.invariant.size size;
     }
 
-pub returns-in_err-numerator-2-clause-broad : goal.returns-in_err-numerator-2-clause-broad
-returns-in_err-numerator-2-clause-broad c =
+pub returns-in_err-numerator-2 : goal.returns-in_err-numerator-2
+returns-in_err-numerator-2 c =
     let p = err_from_is_err_and c.from_residual-in_err-numerator-2.result c.from_residual-in_err-numerator-2.ensures.1 in
     let entry_fits : FitsSigned w64 (get_or c.args.values.now c.loop-v.v (pos 0)) = search rules in
     let unknown_fits : FitsSigned w128 (get_or c.args.x.now (get_or c.args.rows.now c.loop-v.v 0) (pos 0)) = search rules in
     let broad = rw (to_z-of_z entry_fits, to_z-of_z unknown_fits) at c.in_err-numerator-2.ensures.broad in
     let size = rw (to_z-of_z c.ranges.scale) at c.loop-v.invariant.size in
-    rw p.1 (gathered-broad c.args.rows.now c.args.values.now c.args.x.now c.args.j c.loop-v.v (absolute (at c.args.x.now c.args.j *ℤ c.args.scale)) (pos c.loop-v.numerator.size) c.loop-v-test.true size broad)
+    rw p.1 (record { value = tt; size = tt; broad = gathered-broad c.args.rows.now c.args.values.now c.args.x.now c.args.j c.loop-v.v (absolute (at c.args.x.now c.args.j *ℤ c.args.scale)) (pos c.loop-v.numerator.size) c.loop-v-test.true size broad })
 
-pub returns-in_err-numerator-clause-broad : goal.returns-in_err-numerator-clause-broad
-returns-in_err-numerator-clause-broad c =
+pub returns-in_err-numerator : goal.returns-in_err-numerator
+returns-in_err-numerator c =
     let p = err_from_is_err_and c.from_residual.result c.from_residual.ensures.1 in
     let fits : FitsSigned w128 (get_or c.args.x.now c.args.j (pos 0)) = search rules in
     let broad = rw (to_z-of_z fits, to_z-of_z c.ranges.scale) at c.in_err-numerator.ensures.broad in
     let size : pos (2 ^ 126) ≤ℤ absolute (at c.args.x.now c.args.j *ℤ c.args.scale) = omega (arith, ints, broad) in
-    rw p.1 (gathered-broad_start c.args.rows.now c.args.values.now c.args.x.now c.args.j _ size)
+    rw p.1 (record { value = tt; size = tt; broad = gathered-broad_start c.args.rows.now c.args.values.now c.args.x.now c.args.j _ size })
 
 pub bounds-x-rows : goal.bounds-x-rows
 bounds-x-rows c = c.requires.in_range c.loop-v.v 0 c.loop-v-test.true

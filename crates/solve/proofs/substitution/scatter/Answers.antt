@@ -19,8 +19,8 @@ loop-v-preserved c =
     scatter-step c.args.left.now c.loop-v.left c.args.rows.now c.args.values.now c.args.j (to_z w128 (of_z w128 c.args.unknown)) c.loop-v.v c.in_ok-left.field-0
     inside c.loop-v.invariant value size
 
-pub returns-in_err-left-clause-beyond : goal.returns-in_err-left-clause-beyond
-returns-in_err-left-clause-beyond c =
+pub returns-in_err-left : goal.returns-in_err-left
+returns-in_err-left c =
     let p = err_from_is_err_and c.from_residual.result c.from_residual.ensures.1 in
     let row = get_or c.args.rows.now c.loop-v.v 0 in
     let in_range : row < length c.args.left.now = c.requires.in_range c.loop-v.v 0 c.loop-v-test.true in
@@ -30,7 +30,7 @@ returns-in_err-left-clause-beyond c =
     let before : TakesColumn c.args.left.now c.loop-v.left c.args.rows.now c.args.values.now c.args.j c.args.unknown c.loop-v.v =
     rw (← to_z-of_z c.ranges.unknown) c.loop-v.invariant in
     let broad = rw (to_z-of_z entry_fits, to_z-of_z c.ranges.unknown, is) at c.in_err-left.ensures.broad in
-    rw p.1 (scatter-beyond c.args.left.now c.loop-v.left c.args.rows.now c.args.values.now c.args.j c.args.unknown c.loop-v.v c.loop-v-test.true inside before broad)
+    rw p.1 (record { taken = tt; beyond = scatter-beyond c.args.left.now c.loop-v.left c.args.rows.now c.args.values.now c.args.j c.args.unknown c.loop-v.v c.loop-v-test.true inside before broad })
 
 pub bounds-left-row : goal.bounds-left-row
 bounds-left-row c = omega (arith, c.requires.in_range c.loop-v.v 0 c.loop-v-test.true)
