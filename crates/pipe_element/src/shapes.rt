@@ -76,7 +76,6 @@ fn raised(part: i64) -> Iv
 }
 
 /// Half the length, in units of 2^-56 m.
-#[tactic(auto, unfolding(crate::specs::Rounded::half_of, crate::specs::ExactStraight::half_length))]
 fn half(length: Iv) -> Result<Iv, IvFault>
     ensures value { result ≡ half_of length }
     ensures within { IfOk result (λ e. (l : Fraction) → Within length l → Within e (half_length l)) }
