@@ -1,7 +1,19 @@
-use Rattle.std.proofs.lemmas.Result.{IfOk-weaker}
+use Rattle.std.proofs.Common.{refl}
+use Rattle.std.proofs.lemmas.Result.{IfOk-weaker, err_from_is_err_and}
 use Rattle.member_set.specs.Realisation.{fraction}
 use Rattle.assembly.proofs.Fractions.{product_within}
 use Rattle.assembly.proofs.entries.product.Goals as goal
+
+pub returns-in_err-first : goal.returns-in_err-first
+returns-in_err-first c =
+    let p = err_from_is_err_and c.from_residual.result c.from_residual.ensures.1 in
+    let first = rw c.shape.ensures at c.in_err-first.ensures.value in
+    rw (p.1, p.2, ← first) (record { value = refl; within = tt })
+
+pub returns-clause-value : goal.returns-clause-value
+returns-clause-value c =
+    let first = rw c.shape.ensures at c.in_ok-first.ensures.value in
+    rw (← first, ← c.shape-2.ensures) c.mul-2.ensures.value
 
 pub returns-clause-within : goal.returns-clause-within
 returns-clause-within c =
