@@ -4,12 +4,18 @@ use Rattle.structure.specs.Sound.{IsSound}
 use Rattle.structure.proofs.MemberLemmas.{element_members-next, element_members-wide, members-read, members-sound, members-count}
 use Rattle.structure.proofs.elements.all_element_members.Goals as goal
 
-pub returns-in-Err-clause-wide : goal.returns-in-Err-clause-wide
-returns-in-Err-clause-wide c = λ id is.
-    let number : c.loop-number.number ≡ id.0 = cc in
-    let here = members-read c.args.model.now c.elements-elements.result.now c.loop-number.number c.index-elements-number.result c.element_members.result c.elements-elements.ensures.records c.loop-number-test.true c.index-elements-number.is c.element_members.ensures.value in
-    let inside : c.loop-number.number < length c.args.model.now.elements = rw (← c.elements-elements.ensures.records) c.loop-number-test.true in
-    rw (← number) (element_members-wide c.args.model.now c.loop-number.number c.loop-number.members.items c.in-Err.field-0 c.loop-number.invariant.value (here ∙ c.in-Err.is) (length c.args.model.now.elements) inside)
+pub returns-in-Err : goal.returns-in-Err
+returns-in-Err c =
+    record {
+      value = tt;
+      sound = tt;
+      few = tt;
+      wide = λ id is.
+          let number : c.loop-number.number ≡ id.0 = cc in
+          let here = members-read c.args.model.now c.elements-elements.result.now c.loop-number.number c.index-elements-number.result c.element_members.result c.elements-elements.ensures.records c.loop-number-test.true c.index-elements-number.is c.element_members.ensures.value in
+          let inside : c.loop-number.number < length c.args.model.now.elements = rw (← c.elements-elements.ensures.records) c.loop-number-test.true in
+          rw (← number) (element_members-wide c.args.model.now c.loop-number.number c.loop-number.members.items c.in-Err.field-0 c.loop-number.invariant.value (here ∙ c.in-Err.is) (length c.args.model.now.elements) inside);
+    }
 
 pub loop-number-preserved : goal.loop-number-preserved
 loop-number-preserved c =
