@@ -30,11 +30,14 @@ unfolding add_of
 nothing_sum term zero all = refl
 nothing_sum term (suc n) all = rw (nothing_sum term n (λ t below. all t (omega arith)), all n (omega arith)) refl
 
+not_of : (m : Member) (k : ℕ) → m.n1 ≢ k → m.n2 ≢ k → touches m k ≡ false
+not_of m k first second = grind (arith, nat_tests)
+
 not_touching : (m : Member) (n k : ℕ) → (Joins m n k → ⊥) → Touches m n → n ≢ k → touches m k ≡ false
 not_touching m n k apart touch other =
     let first : m.n1 ≢ k = λ e. elim touch [ inl f ↦ other (omega arith) | inr f ↦ apart (inr (e, f)) ] in
     let second : m.n2 ≢ k = λ e. elim touch [ inl f ↦ apart (inl (f, e)) | inr f ↦ other (omega arith) ] in
-    grind (arith, nat_tests)
+    not_of m k first second
 
 outside_term : (b : Built) → IsBuilt b → (i j t : ℕ) → i / 6 < node_count b → (AreJoined b (i / 6) (j / 6) → ⊥) → t < length (members_at b (i / 6)) →
     entry_term b i j t ≡ Ok nothing
@@ -126,7 +129,7 @@ exact_zero b built laws loads r real i j node_inside apart =
       | inr not_first ↦ elim second [
         | inl e ↦ touched (inr e)
         | inr not_second ↦
-            let off : touches (member_of b k) (i / 6) ≡ false = grind (arith, nat_tests) in
+            let off = not_of (member_of b k) (i / 6) not_first not_second in
             let none = nothing_is_zero _ r.denominator (rw (off_node (member_of b k) i off) at (within.shape_within i)) in
             ap (λ (z : ℤ). z *ℤ ((r.member k).stiffness *ℤ (r.member k).shape j)) none ∙ zero-mul ((r.member k).stiffness *ℤ (r.member k).shape j)
       ]

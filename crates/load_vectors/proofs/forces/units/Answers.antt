@@ -1,6 +1,5 @@
 use Rattle.std.proofs.Common.{◌≡◌, refl, arith, FitsSigned, to_z-of_z, ◌∙◌, sym}
 use Rattle.std.specs.Int.{w128}
-use Rattle.std.proofs.lemmas.Grind.{common_steps}
 use Rattle.int_laws.proofs.Sums.{int_sums}
 use Rattle.flex_interval.specs.Fraction.{Within, whole}
 use Rattle.load_vectors.specs.Totals.{units_of}
@@ -10,9 +9,18 @@ use Rattle.load_vectors.proofs.forces.units.Goals as goal
 
 pub unwrap-requires : goal.unwrap-requires
 unwrap-requires c =
-    let value : c.ratio.result ≡ units_of c.args.part = grind (arith, common_steps) in
+    let fits : FitsSigned w128 c.args.part = omega (arith, int_sums, c.requires.least, c.requires.most) in
+    let point = rw (to_z-of_z c.ranges.part, to_z-of_z fits) at c.point.ensures.value in
+    let value : c.ratio.result ≡ units_of c.args.part = rw point at c.ratio.ensures.value in
     let ok = units_of-ok c.args.part c.requires in
     rw (value, ok.1) refl
+
+pub returns-clause-value : goal.returns-clause-value
+returns-clause-value c =
+    let fits : FitsSigned w128 c.args.part = omega (arith, int_sums, c.requires.least, c.requires.most) in
+    let point = rw (to_z-of_z c.ranges.part, to_z-of_z fits) at c.point.ensures.value in
+    let value : c.ratio.result ≡ units_of c.args.part = rw point at c.ratio.ensures.value in
+    sym value ∙ c.unwrap.ensures
 
 pub returns-clause-within : goal.returns-clause-within
 returns-clause-within c =
@@ -23,6 +31,8 @@ returns-clause-within c =
 
 pub returns-clause-size : goal.returns-clause-size
 returns-clause-size c =
-    let value : c.ratio.result ≡ units_of c.args.part = grind (arith, common_steps) in
+    let fits : FitsSigned w128 c.args.part = omega (arith, int_sums, c.requires.least, c.requires.most) in
+    let point = rw (to_z-of_z c.ranges.part, to_z-of_z fits) at c.point.ensures.value in
+    let value : c.ratio.result ≡ units_of c.args.part = rw point at c.ratio.ensures.value in
     let ok = units_of-ok c.args.part c.requires in
     rw (same_outcome (units_of c.args.part) (sym value ∙ c.unwrap.ensures) ok.1) ok.2
