@@ -16,3 +16,6 @@ returns-in-Some-clause-needed c = λ number e k.
     let found : Some c.in-Some.number ≡ refusal c.args.self.now c.args.candidate = c.in-Some.ensures.number in
     let none : refusal c.args.self.now c.args.candidate ≡ None = refusal-KeepsRules c.args.self.now c.args.candidate k in
     cc
+
+pub returns-in-Some-clause-unchanged : goal.returns-in-Some-clause-unchanged
+returns-in-Some-clause-unchanged c = refl
