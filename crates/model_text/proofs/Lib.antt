@@ -1,3 +1,4 @@
+mod Appended
 mod Fronts
 mod LineLemmas
 mod PlainWords

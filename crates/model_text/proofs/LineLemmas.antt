@@ -180,6 +180,18 @@ module _ (text : List ℕ) (left : List (List ℕ)) (n : ℕ) (read : Reading) (
           not_before = small;
         }
 
+    -- the accepted line that makes it
+    pub IsLineOfNode-next : (new : Reading) → after_line read at ≡ Ok new → node < length new.draft.nodes → IsLineOfNode text node n
+    IsLineOfNode-next new ok there = record {
+      at = at;
+      read = read;
+      read_next = new;
+      is_line = record { before = up_to.before; behind = behind; lines_are = up_to.lines_are ∙ ap (λ l. up_to.before ++ l) next; line_is = up_to.line_is; accepted = up_to.accepted };
+      next = ok;
+      not_before = up_to.not_before;
+      there = there;
+    }
+
 -- nothing has been read
 pub IsReadUpTo-none : (text : List ℕ) (node : ℕ) (read : Reading) → start ≡ read → IsReadUpTo text (lines text) 1 read node
 IsReadUpTo-none text node read fresh =

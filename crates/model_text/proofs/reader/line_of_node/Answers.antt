@@ -1,7 +1,7 @@
 use Rattle.std.proofs.Common.{arith, Err, option_copied, sym, ap, ◌∙◌}
 use Rattle.std.proofs.lemmas.List.{length-map}
 use Rattle.text_words.specs.Fields.{lines_left}
-use Rattle.model_text.proofs.LineLemmas.{IsReadUpTo-none, IsReadUpTo-more, none_refused, some_left, line_small}
+use Rattle.model_text.proofs.LineLemmas.{IsReadUpTo-none, IsReadUpTo-more, IsLineOfNode-next, none_refused, some_left, line_small}
 use Rattle.model_text.proofs.reader.line_of_node.Goals as goal
 
 pub loop-rest-init : goal.loop-rest-init
@@ -22,6 +22,12 @@ loop-rest-preserved c =
     let behind = lines_left (option_copied c.cut_line.result.1) in
     let next = ap (λ o. lines_left (option_copied o)) c.in-Some.is ∙ c.cut_line.ensures.lines in
     IsReadUpTo-more c.args.text.now _ c.loop-rest.line c.loop-rest.reading c.args.node.0 c.loop-rest.invariant c.cut_line.result.0.now behind next c.take_line.new.reading c.in-Ok.ensures.ok (omega (arith, length-map c.take_line.new.reading.draft.nodes (λ r. r.name)))
+
+pub returns-then-count-node : goal.returns-then-count-node
+returns-then-count-node c =
+    let behind = lines_left (option_copied c.cut_line.result.1) in
+    let next = ap (λ o. lines_left (option_copied o)) c.in-Some.is ∙ c.cut_line.ensures.lines in
+    IsLineOfNode-next c.args.text.now _ c.loop-rest.line c.loop-rest.reading c.args.node.0 c.loop-rest.invariant c.cut_line.result.0.now behind next c.take_line.new.reading c.in-Ok.ensures.ok (omega (arith, length-map c.take_line.new.reading.draft.nodes (λ r. r.name)))
 
 pub unreachable-requires-2 : goal.unreachable-requires-2
 unreachable-requires-2 c = some_left c.args.text.now _ c.loop-rest.line c.loop-rest.reading c.args.node.0 c.loop-rest.invariant c.requires.accepted (ap (λ o. lines_left (option_copied o)) c.in_default.is)
