@@ -37,3 +37,7 @@ printed_holds n m factor positive b x within =
 -- a modest number fits
 pub modest_fits : (z : ℤ) → IsModest z → FitsSigned w128 z
 modest_fits z modest = omega (arith, int_sums)
+
+-- 2^-56 m in nanometres
+pub displacement_scale : IsScale (pos (10 ^ 9)) (pos (2 ^ 56))
+displacement_scale = record { nonnegative = omega (arith, ints); small = omega (arith, ints); positive = omega (arith, ints) }

@@ -13,8 +13,18 @@ use Rattle.model_types.specs.declared.records.Case.{Case}
 use Rattle.model_types.specs.declared.records.Node.{Node}
 use Rattle.model_types.specs.declared.records.Restraint.{Restraint}
 use Rattle.report.specs.Fits.{loads_count}
-use Rattle.report.specs.Report.{answer_lines, candidate_lines, guess_lines, guess_word, load_count, load_pair, node_lines, restraint_lines, uncertified_words}
+use Rattle.report.specs.Report.{answer_lines, candidate_lines, case_lines, displacement_pair, guess_lines, guess_word, load_count, load_pair, node_lines, restraint_lines, uncertified_words}
 use Rattle.report.proofs.LineLemmas.{next_item, written}
+
+-- the bounds of one more node
+pub node_written : (whole out new name : List ℕ) (nodes : List Node) (i : ℕ) (node : Node) (u row rest : List Bounds) → i < length nodes → node ≡ get_or nodes i node → name ≡ node.name
+    → row ≡ take 6 u → rest ≡ drop 6 u → out ++ flat_map line (node_lines (drop i nodes) u) ≡ whole
+    → new ≡ out ++ line (codes "node" ∷ name ∷ flat_map displacement_pair row) → new ++ flat_map line (node_lines (drop (i + 1) nodes) rest) ≡ whole
+node_written whole out new name nodes i node u row rest inside is named row_is rest_is so_far step =
+    let parts : flat_map line (node_lines (node ∷ drop (i + 1) nodes) u) ≡ line (codes "node" ∷ name ∷ flat_map displacement_pair row) ++ flat_map line (node_lines (drop (i + 1) nodes) rest) =
+    rw (row_is, rest_is, named) refl in
+    written whole out new (line (codes "node" ∷ name ∷ flat_map displacement_pair row)) (flat_map line (node_lines (drop i nodes) u)) (flat_map line (node_lines (drop (i + 1) nodes) rest))
+    (ap (λ left. flat_map line (node_lines left u)) (next_item nodes i node inside is) ∙ parts) so_far step
 
 -- the candidate of one more node
 pub guess_written : (whole out new name : List ℕ) (nodes : List Node) (i : ℕ) (node : Node) (u row rest : List ℤ) → i < length nodes → node ≡ get_or nodes i node → name ≡ node.name
@@ -53,3 +63,11 @@ certified_written m c answer u loads states old begun said new name nodes restra
 pub uncertified_written : (m : Lists) (c : Case) (answer : CaseAnswer) (cause : Cause) (guess : List ℤ) (old begun new : List ℕ) (us : List ℤ) → answer ≡ Uncertified cause guess → us ≡ guess
     → begun ≡ old ++ line (uncertified_words m c cause) → new ≡ begun ++ flat_map line (candidate_lines m cause us) → new ≡ old ++ flat_map line (answer_lines m c answer)
 uncertified_written m c answer cause guess old begun new us is us_is begin step = rw (is, step, begin, us_is) (append_assoc old _ _)
+
+-- the lines of one more case
+pub case_written : (m : Lists) (whole out new : List ℕ) (cases : List Case) (answers : List CaseAnswer) (i : ℕ) (c : Case) (answer : CaseAnswer) → i < length cases → c ≡ get_or cases i c → i < length answers → answer ≡ get_or answers i answer
+    → out ++ flat_map line (case_lines m (drop i cases) (drop i answers)) ≡ whole → new ≡ out ++ flat_map line (answer_lines m c answer) → new ++ flat_map line (case_lines m (drop (i + 1) cases) (drop (i + 1) answers)) ≡ whole
+case_written m whole out new cases answers i c answer inside is inside_too answer_is so_far step =
+    let left = case_lines m (drop (i + 1) cases) (drop (i + 1) answers) in
+    written whole out new (flat_map line (answer_lines m c answer)) (flat_map line (case_lines m (drop i cases) (drop i answers))) (flat_map line left)
+    (rw (next_item cases i c inside is, next_item answers i answer inside_too answer_is) (flat_map-append line (answer_lines m c answer) left)) so_far step

@@ -5,8 +5,13 @@ use Rattle.flex_num.specs.Division.{nearest_of}
 use Rattle.report.specs.Report.{guess_word}
 use Rattle.report.specs.Words.{spaced}
 use Rattle.report.proofs.LineLemmas.{written}
-use Rattle.report.proofs.RoundingLaw.{modest_fits}
+use Rattle.report.proofs.RoundingLaw.{displacement_scale, modest_fits}
 use Rattle.report.proofs.rows.push_guess_words.Goals as goal
+
+pub rounded-requires : goal.rounded-requires
+rounded-requires c =
+    let modest = c.requires c.loop-z.z-index (pos 0) c.loop-z-test.true in
+    record { modest = rw (to_z-of_z (modest_fits (get_or c.args.u.now c.loop-z.z-index (pos 0)) modest)) modest; scale = displacement_scale }
 
 pub loop-z-preserved : goal.loop-z-preserved
 loop-z-preserved c =

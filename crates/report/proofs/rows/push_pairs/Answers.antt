@@ -1,4 +1,4 @@
-use Rattle.std.proofs.Common.{◌≡◌, ℕ, ◌+◌, List, ◌∷◌, ◌++◌, get_or, drop, add-one, ap, ◌∙◌, pos, to_z, of_z}
+use Rattle.std.proofs.Common.{◌≡◌, ℕ, ◌+◌, List, ◌∷◌, ◌++◌, get_or, drop, add-one, ap, ◌∙◌, pos, to_z, of_z, to_z-of_z}
 use Rattle.std.proofs.Math.Seq.{drop-cons}
 use Rattle.std.proofs.lemmas.List.Concat.{flat_map-append}
 use Rattle.std.specs.Int.{w128}
@@ -8,6 +8,11 @@ use Rattle.report.specs.Report.{pair}
 use Rattle.report.specs.Words.{spaced}
 use Rattle.report.proofs.LineLemmas.{written}
 use Rattle.report.proofs.rows.push_pairs.Goals as goal
+
+pub push_pair-requires : goal.push_pair-requires
+push_pair-requires c =
+    let both = c.requires.modest c.loop-pair.pair-index (record { lo = pos 0; hi = pos 0 }) c.loop-pair-test.true in
+    record { lo = both.0; hi = both.1; scale = rw (to_z-of_z c.ranges.n, to_z-of_z c.ranges.m) c.requires.scale }
 
 pub loop-pair-preserved : goal.loop-pair-preserved
 loop-pair-preserved c =
