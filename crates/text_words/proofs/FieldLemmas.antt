@@ -1,14 +1,12 @@
 -- What the first place of a byte says of the parts before and after it.
-use Rattle.std.proofs.Common.{◌≡◌, ℕ, suc, Bool, Option, nat_lt, refl, length-append, ◌+◌, ◌<◌, ◌≤◌, ◌==◌, List, ◌∷◌, ◌++◌, None, Some, take, drop, length, length-take-le, get_or, position, sym, ◌∙◌, ap, arith, add-one}
-use Rattle.std.proofs.Math.Seq.{drop-cons, get_or-append_seam, take-append_seam, drop-append-add}
-use Rattle.std.proofs.lemmas.Bool.{cond-true, lt-ltb, eq-eqb}
-use Rattle.std.specs.Option.{option_map}
+use Rattle.std.proofs.Common.{◌≡◌, ℕ, ◌+◌, ◌<◌, ◌≤◌, ◌==◌, List, ◌++◌, None, Some, take, drop, length, length-take-le, get_or, position, sym, ◌∙◌, ap, arith, add-one}
+use Rattle.std.proofs.Math.Seq.{drop-cons}
 use Rattle.std.proofs.lemmas.Bool.Decides.{nat_tests}
-use Rattle.std.proofs.lemmas.List.{take-append-drop, get_or-take, get_or_append_left}
-use Rattle.std.proofs.lemmas.List.Sums.{fails_before_first, position_or_len_is}
+use Rattle.std.proofs.lemmas.List.{take-append-drop, get_or-take}
+use Rattle.std.proofs.lemmas.List.Sums.{fails_before_first}
 use Rattle.std.proofs.lemmas.List.Quantifiers.{position-Some}
 use Rattle.std.specs.List.{position_or_len}
-use Rattle.text_words.specs.Fields.{Lacks, IsSplit, split_at_first}
+use Rattle.text_words.specs.Fields.{Lacks, IsSplit}
 
 pub lacks_from_none : (end : ℕ) (bytes : List ℕ) → position (λ b. b == end) bytes ≡ None → Lacks end bytes
 lacks_from_none end bytes h k d inside =
