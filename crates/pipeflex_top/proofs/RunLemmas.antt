@@ -169,6 +169,17 @@ Decides-answer words (Some text) after output message NoMemory answers form soun
   refused = λ command refusal asks refused. inr refl;
 }
 
+-- the answer to words of no form is their usage
+pub usage-answer : (words : List (String Global)) (left after : Option (List ℕ)) (output message : List ℕ) (status : Status)
+    → Answers words left after output message status → ¬ HasForm words → status ≡ Usage
+usage-answer words left after output message Done answers wrong = absurd (wrong (answers.command, answers.asked))
+usage-answer words left after output message Uncertified answers wrong = absurd (wrong (answers.command, answers.asked))
+usage-answer words left after output message Refused answers wrong = absurd (wrong (answers.command, answers.asked))
+usage-answer words left after output message Usage answers wrong = refl
+usage-answer words left after output message ReadFault answers wrong = absurd (wrong answers.form)
+usage-answer words left after output message WriteFault answers wrong = absurd answers
+usage-answer words left after output message NoMemory answers wrong = absurd (wrong answers.form)
+
 -- where the table was written, its pairs hold the exact stiffnesses
 pub enclosed-answer : (words : List (String Global)) (left after : Option (List ℕ)) (output message : List ℕ) (status : Status)
     → Answers words left after output message status → status ≡ Done → Asks words Members → IfSome left (λ text. IfOk (parsed text) PrintsEnclosures)

@@ -2,13 +2,33 @@ use Rattle.std.proofs.Common.{◌≡◌, ◌≢◌, sym, subst, ◌∙◌, inl, 
 use Rattle.flex_io.specs.declared.outcome.Status.{Status}
 use Rattle.flex_io.specs.declared.outcome.Status.TheVariants.{Done, Uncertified, ReadFault, WriteFault}
 use Rattle.pipeflex_top.specs.Run.{Answers, message_bytes}
-use Rattle.pipeflex_top.proofs.RunLemmas.{Decides-answer, certified-answer, enclosed-answer, with_output}
+use Rattle.pipeflex_top.proofs.RunLemmas.{Decides-answer, certified-answer, enclosed-answer, usage-answer, with_output}
 use Rattle.pipeflex_top.proofs.program.run.Goals as goal
 
 pub returns-clause-ended : goal.returns-clause-ended
 returns-clause-ended g c = λ whole.
     let reply = c.reply_to-reply in
     (reply.result.output.items, message_bytes reply.result.message, subst (Answers _ _ _ _ _) (sym (c.deliver.ensures.status whole)) reply.ensures.answers, c.deliver.ensures.out_whole whole, c.deliver.ensures.err_whole whole)
+
+pub returns-clause-broke_off : goal.returns-clause-broke_off
+returns-clause-broke_off g c = λ broke.
+    let reply = c.reply_to-reply in
+    (reply.result.output.items, message_bytes reply.result.message, reply.result.status, reply.ensures.answers, c.deliver.ensures.out_part, c.deliver.ensures.err_part, λ room. c.deliver.ensures.room room.0 room.1 broke)
+
+pub returns-clause-write_fault : goal.returns-clause-write_fault
+returns-clause-write_fault g c = c.deliver.ensures.write_fault
+
+pub returns-clause-read_fault : goal.returns-clause-read_fault
+returns-clause-read_fault g c = λ read.
+    let apart : ¬ (◌≡◌ {A = Status} ReadFault WriteFault) = λ same. cc same in
+    let whole : c.deliver.result ≢ WriteFault = λ broke. apart (sym read ∙ broke) in
+    c.reply_to-reply.ensures.read_fault (sym (c.deliver.ensures.status whole) ∙ read)
+
+pub returns-clause-wrong_words : goal.returns-clause-wrong_words
+returns-clause-wrong_words g c = λ wrong out err.
+    let reply = c.reply_to-reply in
+    let whole : c.deliver.result ≢ WriteFault = λ broke. elim (c.deliver.ensures.write_fault broke) [ inl rose ↦ out rose | inr rose ↦ err rose ] in
+    usage-answer _ _ _ _ _ _ (subst (Answers _ _ _ _ _) (sym (c.deliver.ensures.status whole)) reply.ensures.answers) wrong
 
 pub returns-clause-decided : goal.returns-clause-decided
 returns-clause-decided g c = λ form source out err.
