@@ -71,6 +71,23 @@ tracked-again sums touched capacity at new tracked inside was is =
       room = omega (arith, tracked.room, length-set sums at new);
     }
 
+-- a write that keeps the size
+pub tracked-same : (sums : List Sum) (touched : List ℕ) (capacity at : ℕ) (new : Sum) → IsTracked sums touched capacity → at < length sums →
+    size_at sums at ≡ new.size → IsTracked (set sums at new) touched capacity
+tracked-same sums touched capacity at new tracked inside same =
+    let size : (j : ℕ) → size_at (set sums at new) j ≡ size_at sums j =
+    λ j. elim (cases_eq j at) [
+      | inl e ↦ rw e (ap (λ (s : Sum). s.size) (read-here sums at new inside) ∙ sym same)
+      | inr ne ↦ ap (λ (s : Sum). s.size) (read-other sums at new j ne)
+    ] in
+    let mark = ap (λ (n : ℕ). if nat_eq n 0 then pos 0 else pos 1) same in
+    record {
+      noted = λ j h some. tracked.noted j (in_same sums at new j h) (λ z. some (size j ∙ z));
+      in_range = λ t h. omega (arith, tracked.in_range t h, length-set sums at new);
+      counted = omega (arith, int_sums, tracked.counted, count-set sums at new inside, mark);
+      room = omega (arith, tracked.room, length-set sums at new);
+    }
+
 -- the first term at a position, which is noted
 pub tracked-first : (sums : List Sum) (touched : List ℕ) (capacity at : ℕ) (new : Sum) → IsTracked sums touched capacity → at < length sums →
     size_at sums at ≡ 0 → new.size ≢ 0 → IsTracked (set sums at new) (touched ++ at ∷ []) capacity
