@@ -21,6 +21,11 @@ returns-in-Yes-clause-passes c =
       verdict = rw (to_z-of_z c.ranges.shift) at c.in-Yes.ensures.verdict;
     }
 
+pub returns-in-Yes-clause-positive : goal.returns-in-Yes-clause-positive
+returns-in-Yes-clause-positive c =
+    let fits : FitsSigned w128 c.in-Yes.lambda = search rules in
+    rw (to_z-of_z fits) c.in-Yes.ensures.proof.0
+
 pub returns-in-Yes-clause-definite : goal.returns-in-Yes-clause-definite
 returns-in-Yes-clause-definite c =
     let fits : FitsSigned w128 c.in-Yes.lambda = search rules in
