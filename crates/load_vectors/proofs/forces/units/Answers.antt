@@ -12,15 +12,17 @@ unwrap-requires c =
     let fits : FitsSigned w128 c.args.part = omega (arith, int_sums, c.requires.least, c.requires.most) in
     let point = rw (to_z-of_z c.ranges.part, to_z-of_z fits) at c.point.ensures.value in
     let value : c.ratio.result ≡ units_of c.args.part = rw point at c.ratio.ensures.value in
-    let ok = units_of-ok c.args.part c.requires in
-    rw (value, ok.1) refl
+    rw (value, (units_of-ok c.args.part c.requires).1) refl
 
-pub returns-clause-value : goal.returns-clause-value
-returns-clause-value c =
+-- what was unwrapped
+ratio_is : (c : goal.After-unwrap) → c.ratio.result ≡ units_of c.args.part
+ratio_is c =
     let fits : FitsSigned w128 c.args.part = omega (arith, int_sums, c.requires.least, c.requires.most) in
     let point = rw (to_z-of_z c.ranges.part, to_z-of_z fits) at c.point.ensures.value in
-    let value : c.ratio.result ≡ units_of c.args.part = rw point at c.ratio.ensures.value in
-    sym value ∙ c.unwrap.ensures
+    rw point at c.ratio.ensures.value
+
+pub returns-clause-value : goal.returns-clause-value
+returns-clause-value c = sym (ratio_is c) ∙ c.unwrap.ensures
 
 pub returns-clause-within : goal.returns-clause-within
 returns-clause-within c =
@@ -31,8 +33,5 @@ returns-clause-within c =
 
 pub returns-clause-size : goal.returns-clause-size
 returns-clause-size c =
-    let fits : FitsSigned w128 c.args.part = omega (arith, int_sums, c.requires.least, c.requires.most) in
-    let point = rw (to_z-of_z c.ranges.part, to_z-of_z fits) at c.point.ensures.value in
-    let value : c.ratio.result ≡ units_of c.args.part = rw point at c.ratio.ensures.value in
     let ok = units_of-ok c.args.part c.requires in
-    rw (same_outcome (units_of c.args.part) (sym value ∙ c.unwrap.ensures) ok.1) ok.2
+    rw (same_outcome (units_of c.args.part) (sym (ratio_is c) ∙ c.unwrap.ensures) ok.1) ok.2
