@@ -1,5 +1,5 @@
 -- Lengths and radii rounded up are enough.
-use Rattle.std.proofs.Common.{◌≡◌, ◌^◌, refl, sym, ◌∙◌, ap, arith, ℤ, pos, ◌*ℤ◌, neg_ℤ, ◌≤ℤ◌, ◌<ℤ◌}
+use Rattle.std.proofs.Common.{◌^◌, sym, ◌∙◌, ap, arith, ℤ, pos, ◌*ℤ◌, neg_ℤ, ◌≤ℤ◌, ◌<ℤ◌}
 use Rattle.std.proofs.lemmas.Int.{ints, clamps, by_lt_z}
 use Rattle.int_laws.proofs.Sums.{int_sums}
 use Rattle.int_laws.proofs.Products.{neg-mul, mul_comm, mul_assoc, mul_mul_mul_comm, zero-mul, square_nonnegative, mul_nonnegative, le_mul, le_of_mul, square_le}
