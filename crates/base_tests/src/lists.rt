@@ -1,4 +1,4 @@
-use rising_list::{find_rising, insert_rising};
+use lists::{find_rising, insert_rising};
 use std::test::Fail;
 
 #[test]

@@ -1,8 +1,8 @@
 -- A number put into the lists that are named.
 use Rattle.std.proofs.Common.{ℕ, List, [], ◌∷◌, ◌++◌, Contains, inl, inr, ◌∙◌, sym, refl, arith, subst}
 use Rattle.std.proofs.lemmas.List.Elements.{Contains-append_left, Contains-push_cases, Contains-push}
-use Rattle.rising_list.specs.Rising.{IsRising}
-use Rattle.rising_list.specs.Lists.{list_of, ListsNumber}
+use Rattle.lists.specs.Rising.{IsRising}
+use Rattle.lists.specs.Lists.{list_of, ListsNumber}
 use Rattle.factor.specs.Columns.{ListsInAll}
 
 pub lists_none : (a : List (List ℕ)) (x : ℕ) → ((q : ℕ) → IsRising (list_of a q)) → ListsInAll a a [] x

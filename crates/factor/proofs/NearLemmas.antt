@@ -2,7 +2,7 @@
 use Rattle.std.proofs.Common.{◌≡◌, ℕ, ◌<◌, ◌≤◌, List, [], ◌∷◌, ◌++◌, Option, Some, None, length, get_or, map, Contains, All, ◌⊎◌, inl, inr, ◌∙◌, sym, ap, arith, subst, refl, ◌↔◌, ℤ, IfSome}
 use Rattle.std.proofs.lemmas.List.{get_or_default, get_or-map, length-map}
 use Rattle.std.proofs.lemmas.List.Elements.{Contains-get_or, Contains-push_cases, All-contains}
-use Rattle.rising_list.specs.Rising.{IsRising}
+use Rattle.lists.specs.Rising.{IsRising}
 use Rattle.sym_blocks.specs.Matrix.{Matrix, pattern_of, IsSymmetricByBlocks}
 use Rattle.cholesky_laws.specs.Elimination.{parent_of}
 use Rattle.factor.specs.Front.{InsertsLater}

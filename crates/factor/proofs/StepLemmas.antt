@@ -4,7 +4,7 @@ use Rattle.std.specs.Prelude.{Result, IsErrAnd, MatchResult}
 use Rattle.std.proofs.lemmas.Result.{err_from_is_err_and}
 use Rattle.std.proofs.lemmas.Bool.{cases_lt, lt-ltb, le-ltb}
 use Rattle.std.proofs.lemmas.List.{get_or_append_left, get_or_push, length_push, length-map, map_push}
-use Rattle.rising_list.specs.Lists.{list_of}
+use Rattle.lists.specs.Lists.{list_of}
 use Rattle.factor_data.specs.Columns.{Columns}
 use Rattle.cholesky_laws.specs.Recurrence.{cholesky}
 use Rattle.cholesky_laws.proofs.RecurrenceLemmas.{cholesky-above}

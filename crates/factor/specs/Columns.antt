@@ -1,7 +1,7 @@
 -- Lists of users, and the columns of a factor from panels.
 use Rattle.std.specs.Prelude.{◌≡◌, ℕ, ◌+◌, ◌*◌, ◌/◌, ◌%◌, ◌<◌, ◌≤◌, List, length, slice_index, slice_index_or, Contains, All, nat_lt, if◌then◌else◌, ◌⊎◌, ◌↔◌, ℤ, pos}
-use Rattle.rising_list.specs.Rising.{IsRising}
-use Rattle.rising_list.specs.Lists.{list_of}
+use Rattle.lists.specs.Rising.{IsRising}
+use Rattle.lists.specs.Lists.{list_of}
 use Rattle.factor_data.specs.Columns.{Columns, entry}
 use Rattle.factor.specs.Panel.{kept_for}
 use Rattle.factor.specs.State.{nodes_at, entries_at}

@@ -1,6 +1,6 @@
 -- The nodes that a node's columns reach.
 use Rattle.std.specs.Prelude.{◌≡◌, ℕ, ◌+◌, ◌*◌, ◌/◌, ◌%◌, ◌<◌, List, length, slice_index, slice_index_or, Contains, ◌⊎◌, ◌↔◌, ℤ, pos}
-use Rattle.rising_list.specs.Rising.{IsRising}
+use Rattle.lists.specs.Rising.{IsRising}
 
 -- the numbers above `least` are put in, and the list stays in order
 pub record InsertsLater (old new numbers : List ℕ) (least : ℕ) : Type 0 where

@@ -3,7 +3,7 @@ use Rattle.std.specs.Prelude.{◌≡◌, ℕ, ◌+◌, ◌*◌, ◌/◌, ◌%◌
 use Rattle.std.specs.Option.{option_map_or}
 use Rattle.int_laws.specs.Sums.{sum_below}
 use Rattle.std.specs.Int.RustNames.{unsigned_abs}
-use Rattle.rising_list.specs.Rising.{IsRising}
+use Rattle.lists.specs.Rising.{IsRising}
 use Rattle.sym_blocks.specs.Matrix.{Matrix, node_count, HasBlock, IsSymmetricByBlocks, entry as stiffness}
 use Rattle.cholesky_laws.specs.Recurrence.{left_after, scaled}
 use Rattle.cholesky_laws.specs.Elimination.{parent_of}

@@ -1,10 +1,10 @@
 ghost use Rattle.std.specs.Prelude.{◌≡◌, ℕ, ◌<◌, ◌≤◌, All, IfOk, OnOk, length, map, slice_index};
-ghost use Rattle.rising_list.specs.Rising.{IsRising};
+ghost use Rattle.lists.specs.Rising.{IsRising};
 ghost use Rattle.factor_data.specs.Order.{IsOrder};
 ghost use Rattle.factor.specs.Front.{InsertsLater};
 ghost use Rattle.factor.specs.State.{IsInverse};
 
-use rising_list::insert_rising;
+use lists::insert_rising;
 use std::alloc::{AllocError, Global};
 
 // Puts the numbers above `least` into a rising list.

@@ -1,11 +1,11 @@
 ghost use Rattle.std.specs.Prelude.{◌≡◌, ◌⊎◌, ℕ, ◌+◌, ◌*◌, ◌/◌, ◌%◌, ◌^◌, ◌<◌, ◌≤◌, All, Contains, length, slice_index_or, pos, ◌+ℤ◌, ◌-ℤ◌, ◌≤ℤ◌};
 ghost use Rattle.std.specs.Int.RustNames.{unsigned_abs};
-ghost use Rattle.rising_list.specs.Rising.{IsRising};
+ghost use Rattle.lists.specs.Rising.{IsRising};
 ghost use Rattle.factor.specs.Panel.{AllSmall, kept_for};
 ghost use Rattle.factor.specs.Gather.{entry_products, block_product, UpdatesBlock};
 
 use crate::dot::dot;
-use rising_list::find_rising;
+use lists::find_rising;
 
 // Takes what an earlier node's columns give off what is left for a node's rows: the products of its rows for the later
 // nodes with its rows for this node.

@@ -8,7 +8,7 @@ use crate::front::{insert_later, places_of};
 use crate::gather::{add_squares, gather};
 use crate::load::{Problem, load};
 use crate::squares::add_own;
-use rising_list::insert_rising;
+use lists::insert_rising;
 use std::alloc::{AllocError, Global};
 
 /// A node's six columns.

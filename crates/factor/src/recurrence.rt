@@ -1,7 +1,7 @@
 ghost use Rattle.std.specs.Prelude.{◌≡◌, ℕ, ◌*◌, ◌^◌, ◌<◌, ◌≤◌, All, IfOk, OnOk, MatchResult, length, replicate, slice_index, [], pos, ◌≤ℤ◌};
 ghost use Rattle.std.specs.Int.RustNames.{unsigned_abs};
-ghost use Rattle.rising_list.specs.Rising.{IsRising};
-ghost use Rattle.rising_list.specs.Lists.{contents, list_of};
+ghost use Rattle.lists.specs.Rising.{IsRising};
+ghost use Rattle.lists.specs.Lists.{contents, list_of};
 ghost use Rattle.sym_blocks.specs.Matrix.{node_count, entry};
 ghost use Rattle.factor_data.specs.Order.{IsOrder};
 ghost use Rattle.factor.specs.State.{AreParents, matrix_of};
@@ -13,7 +13,7 @@ use crate::front::inverse;
 use crate::load::Problem;
 use crate::panel::{Panel, eliminate_node};
 use factor_data::Factor;
-use rising_list::list_number;
+use lists::list_number;
 use std::alloc::{AllocError, Global};
 use sym_blocks::SymBlocks;
 

@@ -6,7 +6,7 @@ use Rattle.std.proofs.lemmas.Bool.Decides.{nat_tests}
 use Rattle.std.proofs.lemmas.List.{get_or_default}
 use Rattle.int_laws.specs.Sums.{sum_below}
 use Rattle.int_laws.proofs.SumLaws.{sum_below-reindexed}
-use Rattle.rising_list.specs.Rising.{IsRising}
+use Rattle.lists.specs.Rising.{IsRising}
 use Rattle.factor_data.specs.Order.{place_of, position_of, freedom_at, IsSpread, IsOrder}
 
 -- ---- the place of a node

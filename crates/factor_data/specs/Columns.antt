@@ -2,7 +2,7 @@
 use Rattle.std.specs.Prelude.{Vec, ◌≡◌, ℕ, ◌*◌, ◌<◌, ◌≤◌, List, [], length, map, slice_index, slice_index_or, Contains, nat_eq, if◌then◌else◌, ℤ, pos}
 use Rattle.std.specs.declared.alloc.Global.{Global}
 use Rattle.int_laws.specs.Sums.{sum_below}
-use Rattle.rising_list.specs.Rising.{IsRising}
+use Rattle.lists.specs.Rising.{IsRising}
 use Rattle.factor_data.specs.Order.{IsOrder}
 
 -- a factor as contracts see it: the order of elimination, and for each column the positions of its entries and their values

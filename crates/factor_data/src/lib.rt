@@ -4,7 +4,7 @@
 ghost use Rattle.std.specs.Prelude.{◌≡◌, IfOk};
 ghost use Rattle.factor_data.specs.Columns.{contents};
 
-use rising_list::find_rising;
+use lists::find_rising;
 use std::alloc::{AllocError, Global};
 use std::marker::Model;
 

@@ -6,8 +6,8 @@ ghost use Rattle.factor_data.specs.Order.{IsOrder};
 ghost use Rattle.matrix_tests.specs.Entries.{AreEntries, IsEntry};
 
 use factor_data::{Factor, NoMemory};
+use lists::find_rising;
 use member_set::{Built, Member, Sequence};
-use rising_list::find_rising;
 use std::alloc::{AllocError, Global};
 use std::process::Abort;
 use sym_blocks::SymBlocks;

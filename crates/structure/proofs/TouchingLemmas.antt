@@ -2,8 +2,8 @@
 use Rattle.std.proofs.Common.{◌≡◌, ℕ, ◌+◌, ◌<◌, List, [], get_or, replicate, Contains, inl, inr, ◌∙◌, sym, subst, arith, Result, OnOk, Ok, Err}
 use Rattle.std.proofs.lemmas.Bool.{cases_lt}
 use Rattle.std.proofs.lemmas.List.{get_or_past, get_or-replicate, length-replicate}
-use Rattle.rising_list.specs.Rising.{IsRising}
-use Rattle.rising_list.specs.Lists.{list_of, ListsNumber}
+use Rattle.lists.specs.Rising.{IsRising}
+use Rattle.lists.specs.Lists.{list_of, ListsNumber}
 use Rattle.member_set.specs.declared.members.Member.{Member}
 use Rattle.member_set.specs.Members.{Touches, no_member}
 use Rattle.structure.specs.Touching.{ListsTouching, ListsMember}

@@ -1,7 +1,7 @@
 -- For each node the numbers of the members that touch it.
 use Rattle.std.specs.Prelude.{◌≡◌, ℕ, ◌<◌, ◌⊎◌, ◌↔◌, List, length, slice_index_or, Contains}
-use Rattle.rising_list.specs.Rising.{IsRising}
-use Rattle.rising_list.specs.Lists.{list_of}
+use Rattle.lists.specs.Rising.{IsRising}
+use Rattle.lists.specs.Lists.{list_of}
 use Rattle.member_set.specs.declared.members.Member.{Member}
 use Rattle.member_set.specs.Members.{Touches, no_member}
 

@@ -1,10 +1,10 @@
 ghost use Rattle.std.specs.Prelude.{◌≡◌, ℕ, ◌^◌, ◌<◌, ◌≤◌, All, IfOk, OnOk, length, replicate, []};
-ghost use Rattle.rising_list.specs.Rising.{IsRising};
-ghost use Rattle.rising_list.specs.Lists.{contents, list_of};
+ghost use Rattle.lists.specs.Rising.{IsRising};
+ghost use Rattle.lists.specs.Lists.{contents, list_of};
 ghost use Rattle.structure.specs.Touching.{ListsTouching, ListsMember};
 
+use lists::list_number;
 use member_set::{Member, Sequence};
-use rising_list::list_number;
 use std::alloc::{AllocError, Global};
 
 /// For each of some nodes the numbers of the members that touch it, rising.

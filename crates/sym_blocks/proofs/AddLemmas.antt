@@ -1,6 +1,6 @@
 -- What the code reads and writes where it adds to a stored entry.
-use Rattle.rising_list.proofs.ListsLemmas.{contents-read, listing_in_range}
-use Rattle.rising_list.specs.Lists.{contents, list_of}
+use Rattle.lists.proofs.ListsLemmas.{contents-read, listing_in_range}
+use Rattle.lists.specs.Lists.{contents, list_of}
 use Rattle.std.proofs.Common.{◌≡◌, ℕ, ◌/◌, ◌%◌, ◌^◌, ◌<◌, List, [], length, get_or, set, ◌∙◌, sym, ap, arith, ℤ, ◌+ℤ◌, to_z, of_z, SFits, Vec, Global, refl, subst, inl, inr}
 use Rattle.std.specs.Int.{w128}
 use Rattle.std.specs.Int.RustNames.{unsigned_abs}

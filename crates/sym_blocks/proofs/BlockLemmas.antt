@@ -2,8 +2,8 @@
 use Rattle.std.proofs.Common.{◌≡◌, ℕ, ◌<◌, List, [], length, get_or, set, Contains, inl, inr, ◌∙◌, sym, ap, arith, ℤ, pos}
 use Rattle.std.proofs.lemmas.Bool.{cases_eq}
 use Rattle.std.proofs.lemmas.List.{get_or-set_same, get_or-set_other, get_or_past}
-use Rattle.rising_list.specs.Rising.{IsRising, place_of}
-use Rattle.rising_list.proofs.PlaceLemmas.{place_of-at, place_of-absent, at_place_of}
+use Rattle.lists.specs.Rising.{IsRising, place_of}
+use Rattle.lists.proofs.PlaceLemmas.{place_of-at, place_of-absent, at_place_of}
 use Rattle.sym_blocks.specs.Storage.{Block, block_beside, at_place}
 
 pub block_beside-at : (ns : List ℕ) (bs : List Block) (p : ℕ) → IsRising ns → p < length ns → block_beside (get_or ns p 0) ns bs ≡ get_or bs p []

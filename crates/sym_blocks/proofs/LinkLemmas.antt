@@ -1,10 +1,10 @@
 -- Lists of nodes, as pairs are put in.
-use Rattle.rising_list.specs.Lists.{list_of}
+use Rattle.lists.specs.Lists.{list_of}
 use Rattle.std.proofs.Common.{◌≡◌, ℕ, List, [], ◌∷◌, ◌++◌, get_or, Contains, inl, inr, ◌↔◌, ◌∙◌, sym, ap, refl, arith, subst}
 use Rattle.std.proofs.lemmas.List.Elements.{Contains-append_left, Contains-append_right, Contains-append_cases}
-use Rattle.rising_list.specs.Rising.{IsRising}
+use Rattle.lists.specs.Rising.{IsRising}
 use Rattle.sym_blocks.specs.Storage.{LinksLists}
-use Rattle.rising_list.specs.Lists.{ListsNumber}
+use Rattle.lists.specs.Lists.{ListsNumber}
 
 -- a pair is listed alone
 Contains-one : (a b n k : ℕ) → Contains {X = ℕ × ℕ} ((n, k) ∷ []) (a, b) ↔ ((a ≡ n) × (b ≡ k))

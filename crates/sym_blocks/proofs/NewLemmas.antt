@@ -1,12 +1,12 @@
 -- The matrix of zeros that pairs make.
-use Rattle.rising_list.specs.Lists.{list_of}
+use Rattle.lists.specs.Lists.{list_of}
 use Rattle.std.proofs.Common.{◌≡◌, ℕ, ◌/◌, ◌%◌, ◌<◌, ◌≤◌, List, [], ◌∷◌, length, get_or, replicate, Contains, All, inl, inr, ◌↔◌, ◌∙◌, sym, ap, refl, arith, subst, ℤ, pos}
 use Rattle.std.specs.Int.RustNames.{unsigned_abs}
 use Rattle.std.proofs.lemmas.Bool.{cases_lt}
 use Rattle.std.proofs.lemmas.List.{get_or_past, get_or-map, length-map, length-replicate, get_or-replicate}
 use Rattle.std.proofs.lemmas.List.Elements.{All-contains}
 use Rattle.std.proofs.lemmas.List.FromFn.{get_or-map-range_with_len, length-map-range_with_len}
-use Rattle.rising_list.specs.Rising.{IsRising, place_of}
+use Rattle.lists.specs.Rising.{IsRising, place_of}
 use Rattle.sym_blocks.specs.Matrix.{entry, IsLinked}
 use Rattle.sym_blocks.specs.Storage.{Block, own_lists_of, zero_block, zero_blocks_of, block_beside, at_place, stored, matrix_of, IsStorage, IsWhole, LinksLists}
 use Rattle.sym_blocks.proofs.StorageLemmas.{entry-matrix_of}

@@ -1,5 +1,5 @@
 -- What is stored, read as a whole matrix, and a write to it.
-use Rattle.rising_list.specs.Lists.{list_of}
+use Rattle.lists.specs.Lists.{list_of}
 use Rattle.std.proofs.Common.{◌≡◌, ℕ, ◌*◌, ◌/◌, ◌%◌, ◌^◌, ◌<◌, ◌≤◌, List, [], length, get_or, set, map, Contains, ◌⊎◌, inl, inr, ◌∙◌, sym, ap, arith, subst, ℤ, pos}
 use Rattle.std.specs.List.{range_with_len}
 use Rattle.std.specs.Int.RustNames.{unsigned_abs}

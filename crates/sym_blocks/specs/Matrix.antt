@@ -1,7 +1,7 @@
 -- A symmetric matrix of whole numbers on a pattern of 6 by 6 blocks. Row `6 n + f` is freedom f of node n.
 use Rattle.std.specs.Prelude.{◌≡◌, ℕ, ◌/◌, ◌^◌, ◌<◌, List, [], length, slice_index_or, Contains, ℤ, pos, ◌+ℤ◌, ◌⊎◌}
 use Rattle.std.specs.Int.RustNames.{unsigned_abs}
-use Rattle.rising_list.specs.Rising.{IsRising}
+use Rattle.lists.specs.Rising.{IsRising}
 
 -- a matrix as contracts see it: for each node the nodes of its blocks, and the entries row by row
 pub record Matrix : Type 0 where

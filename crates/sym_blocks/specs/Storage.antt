@@ -2,8 +2,8 @@
 use Rattle.std.specs.Prelude.{◌≡◌, ℕ, ◌*◌, ◌/◌, ◌%◌, ◌^◌, ◌<◌, List, [], ◌∷◌, length, map, replicate, slice_index_or, Contains, ◌↔◌, ◌⊎◌, ℤ, pos, ◌+ℤ◌}
 use Rattle.std.specs.List.{range_with_len}
 use Rattle.std.specs.Int.RustNames.{unsigned_abs}
-use Rattle.rising_list.specs.Rising.{IsRising, place_of}
-use Rattle.rising_list.specs.Lists.{list_of}
+use Rattle.lists.specs.Rising.{IsRising, place_of}
+use Rattle.lists.specs.Lists.{list_of}
 use Rattle.sym_blocks.specs.Matrix.{Matrix}
 
 -- a block: six rows of six entries

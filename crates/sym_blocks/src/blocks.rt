@@ -1,10 +1,10 @@
-ghost use Rattle.rising_list.specs.Lists.{contents, list_of};
+ghost use Rattle.lists.specs.Lists.{contents, list_of};
 ghost use Rattle.std.specs.Prelude.{◌≡◌, ◌∷◌, ◌↔◌, OnOk, ℕ, ◌+◌, ◌*◌, ◌/◌, ◌^◌, ◌<◌, IfOk, Contains, All, ℤ, pos, ◌+ℤ◌, length, slice_index_or, [], replicate};
-ghost use Rattle.rising_list.specs.Rising.{IsRising};
+ghost use Rattle.lists.specs.Rising.{IsRising};
 ghost use Rattle.sym_blocks.specs.Storage.{own_lists_of, zero_block, zero_blocks_of, stored, LinksLists, IsLayout, IsStorage, AddsToStored, AddsBoth};
 ghost use Rattle.std.specs.Int.RustNames.{unsigned_abs};
 
-use rising_list::{find_rising, list_number};
+use lists::{find_rising, list_number};
 use std::alloc::{AllocError, Global};
 use std::marker::Model;
 
@@ -24,7 +24,7 @@ pub struct SymBlocks {
 
 impl Model for SymBlocks {
     ghost use Rattle.sym_blocks.specs.Matrix.{Matrix};
-    ghost use Rattle.rising_list.specs.Lists.{contents};
+    ghost use Rattle.lists.specs.Lists.{contents};
     ghost use Rattle.sym_blocks.specs.Storage.{matrix_of, IsStorage};
 
     ghost Value = { Matrix };

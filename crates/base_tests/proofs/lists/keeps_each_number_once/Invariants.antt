@@ -1,4 +1,4 @@
-use Rattle.rising_list.specs.Rising.{IsRising}
+use Rattle.lists.specs.Rising.{IsRising}
 use Rattle.base_tests.proofs.lists.keeps_each_number_once.Given as goal
 
 abbrev pub invariant-loop-number : goal.invariant-loop-number

@@ -1,7 +1,7 @@
 use Rattle.std.proofs.Common.{◌≡◌, ℕ, ◌+◌, ◌*◌, ◌^◌, ◌<◌, ap, sym, subst, arith, length, get_or, List, ℤ, pos}
 use Rattle.std.specs.Int.RustNames.{unsigned_abs}
 use Rattle.std.proofs.lemmas.List.Elements.{Contains-get_or}
-use Rattle.rising_list.proofs.PlaceLemmas.{place_of-at}
+use Rattle.lists.proofs.PlaceLemmas.{place_of-at}
 use Rattle.factor.specs.Panel.{kept_for}
 use Rattle.factor.proofs.GatherLemmas.{IsGatheredTo, gathered_none, gathered_more, gathered_all, unraised, reached_from, UpdatesBlock-same, kept_for-past}
 use Rattle.factor.proofs.gather.add_squares.Goals as goal

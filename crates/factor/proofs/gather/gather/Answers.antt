@@ -1,7 +1,7 @@
 use Rattle.std.proofs.Common.{◌≡◌, ℕ, ◌+◌, ◌*◌, ◌∙◌, ap, sym, subst, arith, length, get_or, List, ℤ, pos, neg_ℤ}
 use Rattle.std.proofs.lemmas.List.Elements.{Contains-get_or}
-use Rattle.rising_list.specs.Rising.{place_of}
-use Rattle.rising_list.proofs.PlaceLemmas.{place_of-at}
+use Rattle.lists.specs.Rising.{place_of}
+use Rattle.lists.proofs.PlaceLemmas.{place_of-at}
 use Rattle.factor.specs.Panel.{kept_for}
 use Rattle.factor.specs.Gather.{block_product}
 use Rattle.factor.proofs.GatherLemmas.{IsGatheredTo, gathered_none, gathered_more, gathered_all, unraised, reached_from, products_match, products_none, UpdatesBlock-same, minus_is}

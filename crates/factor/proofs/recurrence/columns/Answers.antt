@@ -1,6 +1,6 @@
 use Rattle.std.proofs.Common.{◌≡◌, ℕ, ◌+◌, ◌*◌, ◌/◌, ◌%◌, ◌<◌, List, ◌∷◌, [], ◌++◌, length, ◌∙◌, ap, sym, subst, arith, All, Vec, Global, ℤ}
 use Rattle.std.proofs.lemmas.List.{map_push}
-use Rattle.rising_list.specs.Lists.{contents}
+use Rattle.lists.specs.Lists.{contents}
 use Rattle.factor.specs.Columns.{AreColumnRows, AreColumnValues}
 use Rattle.factor.proofs.UserLemmas.{nodes_read, entries_read}
 use Rattle.factor.proofs.ColumnLemmas.{AreColumnsTo, columns_more, columns_fit, columns_hold, shape_bounds}

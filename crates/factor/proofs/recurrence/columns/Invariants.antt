@@ -1,4 +1,4 @@
-use Rattle.rising_list.specs.Lists.{contents}
+use Rattle.lists.specs.Lists.{contents}
 use Rattle.factor.proofs.ColumnLemmas.{AreColumnsTo}
 use Rattle.factor.proofs.recurrence.columns.Given as goal
 

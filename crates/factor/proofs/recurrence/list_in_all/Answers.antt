@@ -1,6 +1,6 @@
 use Rattle.std.proofs.Common.{arith}
 use Rattle.std.proofs.lemmas.List.{take_more}
-use Rattle.rising_list.specs.Lists.{contents}
+use Rattle.lists.specs.Lists.{contents}
 use Rattle.factor.proofs.ListLemmas.{lists_none, lists_more}
 use Rattle.factor.proofs.recurrence.list_in_all.Goals as goal
 

@@ -1,5 +1,5 @@
 use Rattle.std.proofs.Common.{take}
-use Rattle.rising_list.specs.Lists.{contents}
+use Rattle.lists.specs.Lists.{contents}
 use Rattle.factor.specs.Columns.{ListsInAll}
 use Rattle.factor.proofs.recurrence.list_in_all.Given as goal
 

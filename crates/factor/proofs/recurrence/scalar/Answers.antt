@@ -5,9 +5,9 @@ use Rattle.std.proofs.lemmas.Result.{err_from_is_err_and}
 use Rattle.std.proofs.lemmas.List.{with_items_is}
 use Rattle.std.proofs.lemmas.Grind.{common_steps}
 use Rattle.std.proofs.Math.ListN.{length-replicate}
-use Rattle.rising_list.specs.Rising.{IsRising}
-use Rattle.rising_list.specs.Lists.{contents, list_of}
-use Rattle.rising_list.proofs.ListsLemmas.{contents-read, length-contents}
+use Rattle.lists.specs.Rising.{IsRising}
+use Rattle.lists.specs.Lists.{contents, list_of}
+use Rattle.lists.proofs.ListsLemmas.{contents-read, length-contents}
 use Rattle.factor.specs.State.{matrix_of, ArePanels, AreUsers}
 use Rattle.factor.specs.Columns.{HasColumns, ListsInAll}
 use Rattle.factor.specs.Scalar.{IsBreakdownAt}

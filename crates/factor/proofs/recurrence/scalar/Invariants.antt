@@ -1,5 +1,5 @@
 use Rattle.std.proofs.Common.{◌≡◌, ℕ, length}
-use Rattle.rising_list.specs.Lists.{contents, list_of}
+use Rattle.lists.specs.Lists.{contents, list_of}
 use Rattle.factor.specs.State.{matrix_of, ArePanels, AreUsers}
 use Rattle.factor.proofs.recurrence.scalar.Given as goal
 

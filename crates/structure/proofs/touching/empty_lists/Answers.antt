@@ -1,6 +1,6 @@
 use Rattle.std.proofs.Common.{ℕ, ◌∷◌, [], ◌++◌, List, Vec, Global, replicate, ap, ◌∙◌}
 use Rattle.std.proofs.lemmas.List.{map_push, replicate_more}
-use Rattle.rising_list.specs.Lists.{contents}
+use Rattle.lists.specs.Lists.{contents}
 use Rattle.structure.proofs.touching.empty_lists.Goals as goal
 
 pub loop-list-preserved : goal.loop-list-preserved

@@ -1,4 +1,4 @@
-use Rattle.rising_list.specs.Lists.{contents}
+use Rattle.lists.specs.Lists.{contents}
 use Rattle.structure.proofs.TouchingLemmas.{on_ok, ListsMember-both}
 use Rattle.structure.proofs.touching.list_member.Goals as goal
 

@@ -1,6 +1,6 @@
 use Rattle.std.proofs.Common.{length, sym}
 use Rattle.std.proofs.lemmas.List.{get_or_read}
-use Rattle.rising_list.specs.Lists.{contents}
+use Rattle.lists.specs.Lists.{contents}
 use Rattle.member_set.specs.Members.{no_member}
 use Rattle.structure.proofs.TouchingLemmas.{ListsTouching-none, ListsTouching-more}
 use Rattle.structure.proofs.touching.list_members.Goals as goal

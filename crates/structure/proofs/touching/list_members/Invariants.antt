@@ -1,4 +1,4 @@
-use Rattle.rising_list.specs.Lists.{contents}
+use Rattle.lists.specs.Lists.{contents}
 use Rattle.structure.specs.Touching.{ListsTouching}
 use Rattle.structure.proofs.touching.list_members.Given as goal
 

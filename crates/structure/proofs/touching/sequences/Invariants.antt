@@ -1,5 +1,5 @@
 use Rattle.std.proofs.Common.{◌≡◌}
-use Rattle.rising_list.specs.Lists.{contents}
+use Rattle.lists.specs.Lists.{contents}
 use Rattle.structure.proofs.touching.sequences.Given as goal
 
 abbrev pub invariant-loop-list : goal.invariant-loop-list

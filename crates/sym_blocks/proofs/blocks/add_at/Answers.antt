@@ -1,5 +1,5 @@
-use Rattle.rising_list.proofs.ListsLemmas.{contents-read, listing_in_range}
-use Rattle.rising_list.specs.Lists.{contents}
+use Rattle.lists.proofs.ListsLemmas.{contents-read, listing_in_range}
+use Rattle.lists.specs.Lists.{contents}
 use Rattle.std.proofs.Common.{◌/◌, ◌+ℤ◌, get_or, sym, ap, ◌∙◌, Vec, Global}
 use Rattle.std.specs.Int.{w128}
 use Rattle.std.proofs.lemmas.Int.{to_z-of_z}

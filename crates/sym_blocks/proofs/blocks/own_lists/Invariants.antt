@@ -1,4 +1,4 @@
-use Rattle.rising_list.specs.Lists.{contents}
+use Rattle.lists.specs.Lists.{contents}
 use Rattle.std.proofs.Common.{◌≡◌}
 use Rattle.sym_blocks.specs.Storage.{own_lists_of}
 use Rattle.sym_blocks.proofs.blocks.own_lists.Given as goal

@@ -1,4 +1,4 @@
-use Rattle.rising_list.specs.Lists.{contents}
+use Rattle.lists.specs.Lists.{contents}
 use Rattle.std.proofs.Common.{ℕ, ◌≡◌, ◌+◌, ◌∷◌, [], ◌++◌, List, length, take, replicate, Vec, Global, ap, sym, ◌∙◌, arith}
 use Rattle.std.proofs.lemmas.List.{map_push, take_more}
 use Rattle.sym_blocks.specs.Storage.{Block, zero_block, zero_blocks_of}

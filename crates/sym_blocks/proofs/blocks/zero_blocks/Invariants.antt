@@ -1,4 +1,4 @@
-use Rattle.rising_list.specs.Lists.{contents}
+use Rattle.lists.specs.Lists.{contents}
 use Rattle.std.proofs.Common.{◌≡◌, take}
 use Rattle.sym_blocks.specs.Storage.{zero_blocks_of}
 use Rattle.sym_blocks.proofs.blocks.zero_blocks.Given as goal

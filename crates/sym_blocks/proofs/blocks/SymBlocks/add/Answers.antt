@@ -1,4 +1,4 @@
-use Rattle.rising_list.specs.Lists.{contents}
+use Rattle.lists.specs.Lists.{contents}
 use Rattle.std.proofs.Common.{◌≡◌, ◌/◌, ◌^◌, ◌<◌, sym, subst, arith, ◌+ℤ◌, Contains}
 use Rattle.std.specs.Int.{w128}
 use Rattle.std.specs.Int.RustNames.{unsigned_abs}

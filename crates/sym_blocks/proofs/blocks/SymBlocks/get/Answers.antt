@@ -1,4 +1,4 @@
-use Rattle.rising_list.specs.Lists.{contents}
+use Rattle.lists.specs.Lists.{contents}
 use Rattle.std.proofs.Common.{◌/◌, ◌∙◌, sym, ap, to_z, of_z}
 use Rattle.std.specs.Int.{w128}
 use Rattle.std.proofs.lemmas.Int.{to_z-of_z}

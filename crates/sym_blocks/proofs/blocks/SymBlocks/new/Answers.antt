@@ -1,5 +1,5 @@
-use Rattle.rising_list.proofs.ListsLemmas.{length-contents}
-use Rattle.rising_list.specs.Lists.{contents}
+use Rattle.lists.proofs.ListsLemmas.{length-contents}
+use Rattle.lists.specs.Lists.{contents}
 use Rattle.std.proofs.Common.{◌≡◌, ◌∙◌, ap, sym, arith, length}
 use Rattle.std.specs.Vec.{with_items}
 use Rattle.std.proofs.lemmas.List.{with_items_is}

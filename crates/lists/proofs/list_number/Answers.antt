@@ -1,6 +1,6 @@
-use Rattle.rising_list.proofs.ListsLemmas.{contents-read}
-use Rattle.rising_list.proofs.ListsLemmas.{ListsNumber-set, on_ok_both}
-use Rattle.rising_list.proofs.list_number.Goals as goal
+use Rattle.lists.proofs.ListsLemmas.{contents-read}
+use Rattle.lists.proofs.ListsLemmas.{ListsNumber-set, on_ok_both}
+use Rattle.lists.proofs.list_number.Goals as goal
 
 pub insert_rising-requires : goal.insert_rising-requires
 insert_rising-requires c =

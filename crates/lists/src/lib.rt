@@ -2,8 +2,8 @@
 #![tactic(auto)]
 
 ghost use Rattle.std.specs.Prelude.{◌≡◌, ◌<◌, ◌⊎◌, ◌↔◌, ℕ, length, slice_index, Contains, OnOk, MatchOption};
-ghost use Rattle.rising_list.specs.Rising.{IsRising};
-ghost use Rattle.rising_list.specs.Lists.{contents, list_of, ListsNumber};
+ghost use Rattle.lists.specs.Rising.{IsRising};
+ghost use Rattle.lists.specs.Lists.{contents, list_of, ListsNumber};
 
 use std::alloc::AllocError;
 

@@ -2,8 +2,8 @@
 use Rattle.std.proofs.Common.{◌≡◌, ℕ, ◌<◌, List, [], length, get_or, Contains, ◌⊎◌, inl, inr, ◌∙◌, sym, ap, arith, subst, refl, set, ◌↔◌, Vec, Global, Result, Ok, Err, OnOk}
 use Rattle.std.proofs.lemmas.Bool.{cases_lt, cases_eq}
 use Rattle.std.proofs.lemmas.List.{get_or_past, get_or-map, length-map, length-set, map-set, get_or-set_same, get_or-set_other}
-use Rattle.rising_list.specs.Lists.{contents, list_of, ListsNumber}
-use Rattle.rising_list.specs.Rising.{IsRising}
+use Rattle.lists.specs.Lists.{contents, list_of, ListsNumber}
+use Rattle.lists.specs.Rising.{IsRising}
 
 -- the list that an element of the vectors holds
 pub contents-read : {X : Type 0} (vs : List (Vec X Global)) (i : ℕ) (v : Vec X Global) → i < length vs → v ≡ get_or vs i v → list_of (contents vs) i ≡ v.items

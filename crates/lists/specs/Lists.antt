@@ -1,7 +1,7 @@
 -- Lists of lists, as vectors of vectors hold them.
 use Rattle.std.specs.Prelude.{Vec, ◌≡◌, ℕ, List, [], map, length, slice_index_or, Contains, ◌⊎◌, ◌↔◌}
 use Rattle.std.specs.declared.alloc.Global.{Global}
-use Rattle.rising_list.specs.Rising.{IsRising}
+use Rattle.lists.specs.Rising.{IsRising}
 
 -- the lists that vectors hold
 abbrev pub contents : {X : Type 0} → List (Vec X Global) → List (List X)

@@ -1,7 +1,7 @@
 -- The place of a number in a list.
 use Rattle.std.proofs.Common.{◌≡◌, ℕ, zero, suc, ◌<◌, ◌≤◌, cond, List, [], ◌∷◌, length, get_or, Contains, ◌⊎◌, inl, inr, ◌∙◌, sym, ap, refl, arith, eqb}
 use Rattle.std.proofs.lemmas.Bool.{cases_eq, eq-eqb, ne_eqb}
-use Rattle.rising_list.specs.Rising.{IsRising, place_of}
+use Rattle.lists.specs.Rising.{IsRising, place_of}
 
 rising_tail : (n : ℕ) (ns : List ℕ) → IsRising (n ∷ ns) → IsRising ns
 rising_tail n ns up i j d lt in' = up (suc i) (suc j) d (omega arith) (omega arith)

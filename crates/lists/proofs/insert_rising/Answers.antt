@@ -1,7 +1,7 @@
 use Rattle.std.proofs.Common.{Err}
 use Rattle.std.proofs.lemmas.List.Sorted.{searched}
-use Rattle.rising_list.proofs.RisingLemmas.{IsRising-insert, IsRising-le, Contains-insert, IsPlace}
-use Rattle.rising_list.proofs.insert_rising.Goals as goal
+use Rattle.lists.proofs.RisingLemmas.{IsRising-insert, IsRising-le, Contains-insert, IsPlace}
+use Rattle.lists.proofs.insert_rising.Goals as goal
 
 -- the place that the search answers
 place_found : (c : goal.In_ok-insert) → IsPlace c.args.list.now.items c.in-Err.place c.args.number
