@@ -2,7 +2,7 @@
 use Rattle.std.specs.Prelude.{ℕ, suc, ◌^◌, Bool, ◌&&◌, ℤ, pos, negsuc, ◌+ℤ◌, ◌-ℤ◌, ◌*ℤ◌, neg_ℤ, unsigned_abs, int_lt, int_le, nat_lt, Result, Ok, Err, if◌then◌else◌}
 use Rattle.std.specs.Int.{int_min, int_max}
 use Rattle.flex_num.specs.Division.{floor_of, ceil_of}
-use Rattle.flex_num.specs.Root.{root_of, root_up_of}
+use Rattle.flex_num.specs.Root.{root_of, root_up_of, cube_root_of, cube_root_up_of}
 use Rattle.flex_interval.specs.Ends.{Ends}
 use Rattle.flex_interval.specs.declared.fault.IvFault.{IvFault}
 use Rattle.flex_interval.specs.declared.fault.IvFault.TheVariants as fault
@@ -107,3 +107,7 @@ div_of a b s = if holds_zero b then Err fault.Zero else and_then (shifted_of a s
 -- the square root of 2^s a, for an a that is nowhere negative
 unfoldable pub sqrt_of : Ends → ℕ → Result Ends IvFault
 sqrt_of a s = and_then (shifted_of a s) (λ e. Ok (ends (root_of e.lo) (root_up_of e.hi)))
+
+-- the cube root of 2^s a, for an a that is nowhere negative
+unfoldable pub cbrt_of : Ends → ℕ → Result Ends IvFault
+cbrt_of a s = and_then (shifted_of a s) (λ e. Ok (ends (cube_root_of e.lo) (cube_root_up_of e.hi)))

@@ -1,6 +1,7 @@
 // Interval arithmetic over whole numbers: each operation rounds its ends outwards, so that it encloses every exact result.
 #![tactic(auto)]
 
+mod cube_root;
 mod fault;
 mod interval;
 mod order;
@@ -10,6 +11,7 @@ mod scale;
 mod square_root;
 mod sum;
 
+pub use cube_root::cbrt;
 pub use fault::{IvFault, Wide};
 pub use interval::{Iv, point};
 pub use order::{abs, max, min};

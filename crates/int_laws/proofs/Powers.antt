@@ -4,7 +4,7 @@ use Rattle.std.proofs.Math.Nat.{pow-zero, pow-suc}
 use Rattle.std.proofs.lemmas.Int.{ints, by_lt_z}
 use Rattle.int_laws.specs.Powers.{power}
 use Rattle.int_laws.proofs.Sums.{int_sums}
-use Rattle.int_laws.proofs.Products.{mul_comm, mul_nonnegative, mul_positive, mul_mul_mul_comm, le_mul, lt_mul}
+use Rattle.int_laws.proofs.Products.{mul_comm, mul_nonnegative, mul_positive, mul_mul_mul_comm, one-mul, le_mul, lt_mul}
 
 -- the power of a product is the product of the powers
 pub power-mul : (p : ℕ) (x y : ℤ) → power (x *ℤ y) (suc p) ≡ power x (suc p) *ℤ power y (suc p)
@@ -43,3 +43,14 @@ power_less (suc p) x y h less =
 -- what has the lesser power is less
 pub le_of_power : (p : ℕ) (x y : ℤ) → pos 0 ≤ℤ y → power x (suc p) ≤ℤ power y (suc p) → x ≤ℤ y
 le_of_power p x y h less = by_lt_z y x (λ greater. let over = power_less p y x h greater in absurd (omega (arith, int_sums))) (λ rest. rest)
+
+-- no whole number from 0 on is greater than its power
+pub le-power : (p : ℕ) (x : ℤ) → pos 0 ≤ℤ x → x ≤ℤ power x (suc p)
+le-power zero x h = omega (arith, int_sums)
+le-power (suc p) x h =
+    let before = le-power p x h in
+    by_lt_z (pos 0) x
+    (λ some.
+    let one : pos 1 ≤ℤ power x (suc p) = omega (arith, int_sums) in
+    omega (arith, int_sums, le_mul x h one, one-mul x))
+    (λ none. omega (arith, int_sums, mul_nonnegative (power x (suc p)) x (power_nonnegative p x h) h))
