@@ -1,6 +1,8 @@
 // Interval arithmetic over whole numbers: each operation rounds its ends outwards, so that it encloses every exact result.
 #![tactic(auto)]
 
+mod best;
+mod bounded;
 mod cube_root;
 mod fault;
 mod interval;
@@ -11,6 +13,8 @@ mod scale;
 mod square_root;
 mod sum;
 
+pub use best::best_root;
+pub use bounded::share;
 pub use cube_root::cbrt;
 pub use fault::{IvFault, Wide};
 pub use interval::{Iv, point};

@@ -1,6 +1,6 @@
 use Rattle.std.proofs.Common.{◌≡◌, ◌∙◌, sym, to_z-of_z, Ok, rules}
-use Rattle.section_data.proofs.RatioBounds.{IsSmall, ratio_ends, small_ratio, ratio_lo, ratio_hi}
-use Rattle.section_data.proofs.tube.share.Goals as goal
+use Rattle.flex_interval.proofs.SmallRatios.{IsSmall, ratio_ends, small_ratio, ratio_lo, ratio_hi}
+use Rattle.flex_interval.proofs.bounded.share.Goals as goal
 
 small : (c : goal.After-ratio) → IsSmall c.args.a c.args.n
 small c = record {

@@ -8,10 +8,10 @@ use Rattle.int_laws.proofs.Products.{le_mul, mul_comm, mul_nonnegative, zero-mul
 use Rattle.flex_num.specs.Division.{floor_of, ceil_of}
 use Rattle.flex_num.proofs.DivisionLemmas.{floor_of-is, ceil_of-is, floor_greatest, ceiling_least}
 use Rattle.flex_interval.specs.Ends.{Ends}
-use Rattle.flex_interval.specs.Operations.{ends, small_of, product_of, multiple_of, ratio_of, add_of}
+use Rattle.flex_interval.specs.Operations.{ends, product_of, multiple_of, ratio_of}
 
 -- a product that is small is there
-product_is : (x y : ℤ) → unsigned_abs (x *ℤ y) < 2 ^ 126 → product_of x y ≡ Ok (x *ℤ y)
+pub product_is : (x y : ℤ) → unsigned_abs (x *ℤ y) < 2 ^ 126 → product_of x y ≡ Ok (x *ℤ y)
 product_is x y h = grind (arith, nat_tests)
 
 -- the interval that a ratio answers
@@ -47,18 +47,3 @@ pub ratio_hi : (a : Ends) (n m b : ℤ) → pos 0 <ℤ m → IsSmall a n → (a.
 ratio_hi a n m b positive h enough =
     let bounds = product_bounds a n h in
     ceiling_least b positive (ceil_of-is _ m positive) (omega (arith, int_sums, clamps, bounds.0, bounds.1))
-
-small_of_is : (x : ℤ) → unsigned_abs x < 2 ^ 126 → small_of x ≡ Ok x
-small_of_is x h = grind (arith, nat_tests)
-
--- the sum of two intervals from 0 on that are small
-pub small_sum : (a b : Ends) → pos 0 ≤ℤ a.lo → a.lo ≤ℤ a.hi → a.hi ≤ℤ pos (2 ^ 124) → pos 0 ≤ℤ b.lo → b.lo ≤ℤ b.hi → b.hi ≤ℤ pos (2 ^ 124) →
-    add_of a b ≡ Ok (ends (a.lo +ℤ b.lo) (a.hi +ℤ b.hi))
-unfolding add_of
-small_sum a b a_lo a_ordered a_hi b_lo b_ordered b_hi =
-    rw (small_of_is (a.lo +ℤ b.lo) (omega (arith, int_sums)), small_of_is (a.hi +ℤ b.hi) (omega (arith, int_sums))) refl
-
--- a product of two bounded numbers
-pub product_most : (x n a b : ℤ) → pos 0 ≤ℤ a → pos 0 ≤ℤ n → x ≤ℤ a → n ≤ℤ b → (x *ℤ n) ≤ℤ (a *ℤ b)
-product_most x n a b a_positive positive first second =
-    omega (arith, int_sums, le_mul n positive first, le_mul a a_positive second, mul_comm n a, mul_comm b a)
