@@ -1,13 +1,12 @@
 -- The best shift of a root by the logarithm of its number.
-use Rattle.std.proofs.Common.{◌≡◌, ℕ, zero, suc, ◌+◌, ◌-◌, ◌*◌, ◌/◌, ◌^◌, ◌<◌, ◌≤◌, min, true, false, if◌then◌else◌, refl, inl, inr, subst, arith, ℤ, pos, ◌*ℤ◌, ◌<ℤ◌, int_lt, unsigned_abs}
+use Rattle.std.proofs.Common.{◌≡◌, ℕ, zero, suc, ◌+◌, ◌-◌, ◌*◌, ◌/◌, ◌^◌, ◌<◌, ◌≤◌, min, true, false, if◌then◌else◌, refl, inl, inr, subst, arith, ℤ, pos, ◌*ℤ◌, ◌<ℤ◌, int_lt}
 use Rattle.std.proofs.Math.Nat.{mul-le-mul_left}
 use Rattle.std.proofs.Math.Pow.{pow_mono}
 use Rattle.std.proofs.lemmas.Nat.{pow-add, pow_pos}
 use Rattle.std.proofs.lemmas.Bool.{cases_lt, cases_eq}
-use Rattle.std.proofs.lemmas.Bool.Decides.{nat_tests}
 use Rattle.std.proofs.lemmas.Int.{ints}
 use Rattle.int_laws.proofs.Sums.{int_sums}
-use Rattle.flex_interval.specs.BestRoot.{IsBestShift, half_shift_within, half_shift_of}
+use Rattle.flex_interval.specs.BestRoot.{IsBestShift, half_shift_within}
 
 no_more : (most : ℕ) (n : ℤ) (h : ℕ) → (n *ℤ pos (2 ^ (2 * h))) <ℤ pos (2 ^ 124) → h ≡ suc most → int_lt (n *ℤ pos (2 ^ (2 * suc most))) (pos (2 ^ 124)) ≡ false → ⊥
 no_more most n h below same e =
@@ -22,13 +21,13 @@ half_shift_found (suc most) n h best =
     elim (int_lt product (pos (2 ^ 124))) as (λ t. int_lt product (pos (2 ^ 124)) ≡ t → (if t then suc most else half_shift_within most n) ≡ h) [
       | true ↦ λ e. omega (arith, best.in_range, best.greatest (suc most) (omega arith) (omega (arith, int_sums)))
       | false ↦ λ e. half_shift_found most n h (record {
-          in_range = elim (cases_eq h (suc most)) [
-            | inl same ↦ absurd (no_more most n h best.below same e)
-            | inr other ↦ omega (arith, best.in_range)
-          ];
-          below = best.below;
-          greatest = λ k inside small. best.greatest k (omega arith) small;
-        })
+        in_range = elim (cases_eq h (suc most)) [
+          | inl same ↦ absurd (no_more most n h best.below same e)
+          | inr other ↦ omega (arith, best.in_range)
+        ];
+        below = best.below;
+        greatest = λ k inside small. best.greatest k (omega arith) small;
+      })
     ] refl
 
 product_below : (n l s : ℕ) → n < 2 * 2 ^ l → 1 + l + s ≤ 124 → n * 2 ^ s < 2 ^ 124

@@ -1,10 +1,10 @@
 -- A ratio of an interval from 0 on has no fault where the upper product is small, and its ends are bounded.
-use Rattle.std.proofs.Common.{◌≡◌, ◌^◌, ◌<◌, refl, arith, ℤ, pos, ◌+ℤ◌, ◌*ℤ◌, ◌≤ℤ◌, ◌<ℤ◌, unsigned_abs, Ok}
+use Rattle.std.proofs.Common.{◌≡◌, ◌^◌, ◌<◌, refl, arith, ℤ, pos, ◌*ℤ◌, ◌≤ℤ◌, ◌<ℤ◌, unsigned_abs, Ok}
 use Rattle.std.proofs.lemmas.Int.{clamps}
 use Rattle.std.specs.Int.{int_min, int_max}
 use Rattle.std.proofs.lemmas.Bool.Decides.{nat_tests}
 use Rattle.int_laws.proofs.Sums.{int_sums}
-use Rattle.int_laws.proofs.Products.{le_mul, mul_comm, mul_nonnegative, zero-mul}
+use Rattle.int_laws.proofs.Products.{le_mul, mul_nonnegative, zero-mul}
 use Rattle.flex_num.specs.Division.{floor_of, ceil_of}
 use Rattle.flex_num.proofs.DivisionLemmas.{floor_of-is, ceil_of-is, floor_greatest, ceiling_least}
 use Rattle.flex_interval.specs.Ends.{Ends}

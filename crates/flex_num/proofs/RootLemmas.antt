@@ -1,5 +1,5 @@
 -- The roots of any exponent above 0: what each one is, and that nothing else is it.
-use Rattle.std.proofs.Common.{◌≡◌, ℕ, zero, suc, ◌+◌, ◌*◌, ◌/◌, ◌^◌, ◌<◌, ◌≤◌, refl, sym, subst, arith, nat_le, nat_eq, ℤ, pos, negsuc, ◌+ℤ◌, ◌*ℤ◌, ◌≤ℤ◌, ◌<ℤ◌, true, false, if◌then◌else◌}
+use Rattle.std.proofs.Common.{◌≡◌, ℕ, zero, suc, ◌+◌, ◌*◌, ◌/◌, ◌^◌, ◌<◌, ◌≤◌, refl, sym, subst, arith, nat_le, nat_eq, ℤ, pos, negsuc, ◌+ℤ◌, ◌≤ℤ◌, ◌<ℤ◌, true, false, if◌then◌else◌}
 use Rattle.std.proofs.Math.Nat.{pow-suc, one-le-pow, mul-le-mul_left, mul-div-le, lt-mul-div-succ, div-lt_self}
 use Rattle.std.proofs.lemmas.Nat.{pow_pos, mul-pow}
 use Rattle.std.proofs.lemmas.Bool.Decides.{nat_tests, Decides-int_eq}
@@ -49,8 +49,8 @@ root_between p n r h low high = record {
   nonnegative = h;
   at_most = low;
   greatest = λ k small. by_lt_z r k
-  (λ greater. let over = power_le p (r +ℤ pos 1) k (omega (arith, int_sums)) (omega (arith, int_sums)) in absurd (omega (arith, int_sums)))
-  (λ rest. rest);
+      (λ greater. let over = power_le p (r +ℤ pos 1) k (omega (arith, int_sums)) (omega (arith, int_sums)) in absurd (omega (arith, int_sums)))
+      (λ rest. rest);
 }
 
 -- among whole numbers
@@ -116,3 +116,14 @@ root_up_unique {p} {n} {q} {r} f g =
     let above = f.least r g.nonnegative g.at_least in
     let below = g.least q f.nonnegative f.at_least in
     omega (arith, int_sums)
+
+-- the root of a number that is given: what lies between its power and the next, or the one before
+pub root_at : (n r : ℕ) → r * r ≤ n → n < (r + 1) * (r + 1) → root_of (pos n) ≡ pos r
+root_at n r low high = root_unique (root_of-is (pos n) (omega (arith, ints))) (root_between 1 (pos n) (pos r) (omega (arith, ints)) (omega (arith, ints)) (omega (arith, ints)))
+
+pub root_up_at : (n r : ℕ) → r * r < n → n ≤ (r + 1) * (r + 1) → root_up_of (pos n) ≡ pos (r + 1)
+root_up_at n r low high = root_up_unique (root_up_of-is (pos n) (omega (arith, ints))) (record {
+  nonnegative = omega (arith, ints);
+  at_least = omega (arith, ints);
+  least = λ k h enough. by_lt_z k (pos (r + 1)) (λ less. let under = power_le 1 k (pos r) h (omega (arith, ints)) in absurd (omega (arith, ints))) (λ rest. rest);
+})

@@ -1,8 +1,7 @@
-use Rattle.std.proofs.Common.{rules, ◌≡◌, ◌*◌, ◌^◌, refl, arith, sym, ◌∙◌, pos, ◌*ℤ◌, Ok, to_z-of_z}
+use Rattle.std.proofs.Common.{rules, ◌≡◌, ◌*◌, ◌^◌, arith, pos, to_z-of_z}
 use Rattle.std.proofs.lemmas.Int.{ints}
 use Rattle.int_laws.proofs.Products.{mul_nonnegative}
-use Rattle.flex_num.specs.Root.{root_of, root_up_of}
-use Rattle.flex_interval.specs.Operations.{ends, point_of, shifted_of, sqrt_of}
+use Rattle.flex_interval.specs.Operations.{point_of, shifted_of, sqrt_of}
 use Rattle.flex_interval.proofs.SmallRatios.{product_is}
 use Rattle.flex_interval.proofs.best.best_root.Goals as goal
 

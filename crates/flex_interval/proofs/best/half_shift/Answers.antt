@@ -1,4 +1,4 @@
-use Rattle.std.proofs.Common.{◌≡◌, ◌-◌, ◌/◌, ◌≤◌, min, sym, subst, arith, ℤ, pos, unsigned_abs, to_z-of_z}
+use Rattle.std.proofs.Common.{◌≡◌, ◌-◌, ◌/◌, min, sym, subst, arith, ℤ, pos, unsigned_abs, to_z-of_z}
 use Rattle.std.proofs.lemmas.Int.{ints}
 use Rattle.flex_interval.specs.BestRoot.{IsBestShift, half_shift_of}
 use Rattle.flex_interval.proofs.BestRootLemmas.{half_shift_found, log_is_best, log_most}

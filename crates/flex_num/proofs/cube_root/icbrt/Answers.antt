@@ -1,4 +1,4 @@
-use Rattle.std.proofs.Common.{rules, ◌≡◌, arith, pos, to_z}
+use Rattle.std.proofs.Common.{◌≡◌, arith, pos, to_z}
 use Rattle.std.proofs.lemmas.Int.{ints}
 use Rattle.std.specs.Int.{w128}
 use Rattle.flex_num.proofs.RootLemmas.{root_unique, cube_root_of-is}

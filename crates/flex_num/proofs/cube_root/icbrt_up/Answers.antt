@@ -1,4 +1,4 @@
-use Rattle.std.proofs.Common.{rules, ◌≡◌, ◌+◌, arith, pos, ◌+ℤ◌, to_z}
+use Rattle.std.proofs.Common.{◌≡◌, ◌+◌, arith, pos, ◌+ℤ◌, to_z}
 use Rattle.std.proofs.lemmas.Int.{ints}
 use Rattle.std.specs.Int.{w128}
 use Rattle.flex_num.specs.Root.{IsRoot}

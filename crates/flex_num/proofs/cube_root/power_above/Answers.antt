@@ -1,5 +1,4 @@
-use Rattle.std.proofs.Common.{◌<◌, arith}
-use Rattle.std.proofs.lemmas.Nat.{pow_below}
+use Rattle.std.proofs.Common.{◌<◌}
 use Rattle.flex_num.proofs.CubeRootLemmas.{shifted, log_below, power_small, power_is_above}
 use Rattle.flex_num.proofs.cube_root.power_above.Goals as goal
 
