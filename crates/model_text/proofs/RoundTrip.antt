@@ -21,9 +21,8 @@ use Rattle.model_types.specs.Lists.{Lists, no_records}
 use Rattle.model_types.specs.Rules.{IsModel, KeepsRules}
 use Rattle.model_text.specs.Canonical.{canonical, lines_of, material_words, section_words, node_words, element_words, restraint_words, case_words, force_words}
 use Rattle.model_text.specs.Grammar.{after_lines, parsed, whole}
-use Rattle.model_text.specs.Lines.{start, is_at_rest}
+use Rattle.model_text.specs.Lines.{State, start, is_at_rest}
 use Rattle.model_text.specs.RoundTrip.{AreCasesAtRest, CanonicalReadsBack}
-use Rattle.model_text.specs.declared.reader.Reading.{Reading}
 use Rattle.model_text.proofs.Fronts.{IsFront, whole_front, no_front, KeepsRules-fronts}
 use Rattle.model_text.proofs.LineLemmas.{after_lines-Ok, after_lines-nil, parsed-lines}
 use Rattle.model_text.proofs.PlainWords.{no_words, one_more, lines-line}
@@ -239,7 +238,7 @@ module _ (m : Lists) (k : KeepsRules m) where
   all_lines : AreCasesAtRest m → after_lines start 1 (lines (canonical m)) ≡ Ok (below (forces_read m.forces))
   all_lines at_rest =
       let led = (Leads-all at_rest).from 1 in
-      let end : Reading = below (forces_read m.forces) in
+      let end : State = below (forces_read m.forces) in
       led.1 ∙ after_lines-Ok end led.0 [] [] end refl ∙ after_lines-nil end (led.0 + 1)
 
   -- what has been read is the whole model

@@ -10,10 +10,9 @@ use Rattle.model_types.specs.Rules.{KeepsRules}
 use Rattle.model_types.proofs.AllowedLemmas.{refusal-KeepsRules}
 use Rattle.model_text.specs.Canonical.{lines_of}
 use Rattle.model_text.specs.Grammar.{after_lines}
-use Rattle.model_text.specs.Lines.{after_line, after_words, is_loaded_case, judged, record_taken, taken}
+use Rattle.model_text.specs.Lines.{State, after_line, after_words, is_loaded_case, judged, record_taken, taken}
 use Rattle.model_text.specs.Records.{record_of_words}
 use Rattle.model_text.specs.Words.{is_allowed, words}
-use Rattle.model_text.specs.declared.reader.Reading.{Reading}
 use Rattle.model_text.proofs.Fronts.{IsFront}
 use Rattle.model_text.proofs.LineLemmas.{after_lines-Ok}
 use Rattle.model_text.proofs.PlainWords.{words-joined, allowed-joined, lines-line}
@@ -21,10 +20,10 @@ use Rattle.model_text.proofs.WrittenRecords.{IsWritten, record_words, written}
 use Rattle.model_text.proofs.WrittenWords.{after_step}
 
 -- reading a text, from whatever line number, leads to reading what is left of it
-pub record Leads (s : Reading) (text : List ℕ) (t : Reading) (left : List ℕ) : Type 0 where
+pub record Leads (s : State) (text : List ℕ) (t : State) (left : List ℕ) : Type 0 where
   pub from : (n : ℕ) → (k : ℕ) × (after_lines s n (lines text) ≡ after_lines t k (lines left))
 
-pub Leads-on : (s t u : Reading) (text middle left : List ℕ) → Leads s text t middle → Leads t middle u left → Leads s text u left
+pub Leads-on : (s t u : State) (text middle left : List ℕ) → Leads s text t middle → Leads t middle u left → Leads s text u left
 Leads-on s t u text middle left first second = record {
   from = λ n.
       let a = first.from n in
@@ -33,7 +32,7 @@ Leads-on s t u text middle left first second = record {
 }
 
 -- the records below the header
-abbrev pub below : Lists → Reading
+abbrev pub below : Lists → State
 below m = record { header = true; draft = m }
 
 module _ (m : Lists) (r : Record) (k : KeepsRules (added m r)) (calm : is_loaded_case r ≡ false) where
