@@ -2,3 +2,4 @@ pub mod Sums
 pub mod Products
 pub mod SumLaws
 pub mod Powers
+pub mod FormLaws
