@@ -6,3 +6,4 @@ pub mod RootLemmas
 pub mod SumLemmas
 pub mod BestRootLemmas
 pub mod SmallRatios
+pub mod SmallProducts
