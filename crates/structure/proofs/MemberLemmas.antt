@@ -1,17 +1,28 @@
 -- The members of a model's elements and restraints.
-use Rattle.std.proofs.Common.{◌≡◌, ℕ, zero, suc, ◌+◌, ◌^◌, ◌<◌, ◌≤◌, List, ◌++◌, length, get_or, All, inl, inr, sym, subst, arith, add-one, ℤ, pos, ◌<ℤ◌, Result, Ok, Err}
+use Rattle.std.proofs.Common.{◌≡◌, ℕ, zero, suc, ◌+◌, ◌^◌, ◌<◌, Bool, true, false, ◌&&◌, if◌then◌else◌, List, ◌++◌, length, get_or, All, inl, inr, sym, ap, subst, arith, add-one, ℤ, pos, ◌<ℤ◌, Result, Ok, Err}
 use Rattle.std.proofs.lemmas.Int.{ints}
 use Rattle.std.proofs.lemmas.Bool.{cases_eq}
 use Rattle.std.proofs.lemmas.List.{get_or_read}
+use Rattle.flex_interval.specs.Ends.{Ends}
+use Rattle.flex_interval.specs.Operations.{or_wide}
+use Rattle.flex_interval.specs.declared.fault.IvFault.{IvFault}
 use Rattle.flex_interval.specs.declared.fault.Wide.{Wide}
 use Rattle.member_set.specs.declared.members.Member.{Member}
 use Rattle.model_types.specs.Lists.{Lists}
 use Rattle.model_types.specs.declared.records.Element.{Element}
+use Rattle.model_types.specs.declared.records.Material.{Material}
+use Rattle.model_types.specs.declared.records.Node.{Node}
+use Rattle.model_types.specs.declared.records.Section.{Section}
 use Rattle.model_types.specs.Rules.{IsModel, KeepsElement}
+use Rattle.member_pairs.specs.Lengths.{length_of}
 use Rattle.member_pairs.specs.Pairs.{IsMemberOf}
-use Rattle.model_types.specs.declared.records.Shape.{Shape}
-use Rattle.model_types.specs.declared.records.Shape.TheVariants.{Straight}
-use Rattle.structure.specs.Elements.{member_count, members_of, element_at, no_element}
+use Rattle.member_pairs.specs.Tubes.{tube_of}
+use Rattle.member_pairs.specs.Vectors.{way_of, parts_of}
+use Rattle.pipe_element.specs.Rounded.{stiffness_of, shapes_of, are_stiffnesses, are_shapes}
+use Rattle.pipe_element.specs.Straight.{straight_of, limited, members_of as straight_members}
+use Rattle.pipe_element.specs.declared.shapes.Shapes.{Shapes}
+use Rattle.pipe_element.specs.declared.stiffness.Stiffness.{Stiffness}
+use Rattle.structure.specs.Elements.{members_of, element_at, no_element, from_of, to_of, section_of, material_of}
 use Rattle.structure.specs.Sound.{IsSound}
 use Rattle.structure.specs.Structure.{element_members}
 
@@ -56,5 +67,30 @@ members-sound m model n inside more own =
     let keeps : KeepsElement m.nodes m.sections (element_at m n) = model.rules.elements n no_element inside in
     λ k d here. sound (element_at m n) (length m.nodes) keeps.from keeps.to _ (own k d here)
 
-pub at_most_eight : (shape : Shape) (more : List Member) → length more ≡ member_count shape → length more ≤ 8
-at_most_eight Straight more is = omega arith
+-- ---- how many members a straight has
+
+or_wide-ok : {A B : Type 0} (r : Result A IvFault) (next : A → Result B Wide) (b : B) → or_wide r next ≡ Ok b → (a : A) × (next a ≡ Ok b)
+or_wide-ok (Ok a) next b is = (a, is)
+or_wide-ok (Err e) next b is = absurd (cc)
+
+chosen : (t : Bool) (x y : List Member) (w : Wide) → ((if t then Ok x else Err w) ≡ Ok y) → x ≡ y
+chosen true x y w is = cc
+chosen false x y w is = absurd (cc)
+
+limited-count : (e : Element) (k : Stiffness) (w : Shapes) (members : List Member) → limited e k w ≡ Ok members → length members ≡ 8
+limited-count e k w members is = ap length (sym (chosen (are_stiffnesses k && are_shapes w) (straight_members e k w) members (record {}) is))
+
+straight-count : (e : Element) (a b : Node) (s : Section) (m : Material) (members : List Member) → straight_of e a b s m ≡ Ok members → length members ≡ 8
+unfolding straight_of
+straight-count e a b s m members is =
+    let way = way_of a b in
+    let with_length = λ (length : Ends) (k : Stiffness). or_wide (shapes_of way length) (limited e k) in
+    let l = or_wide-ok (length_of (parts_of way)) (λ length. or_wide (stiffness_of (tube_of s m) way length) (with_length length)) members is in
+    let k = or_wide-ok (stiffness_of (tube_of s m) way l.0) (with_length l.0) members l.1 in
+    let w = or_wide-ok (shapes_of way l.0) (limited e k.0) members k.1 in
+    limited-count e k.0 w.0 members w.1
+
+pub members-count : (m : Lists) (n : ℕ) (more : List Member) → members_of m (element_at m n) ≡ Ok more → length more ≡ 8
+members-count m n more is =
+    let e = element_at m n in
+    straight-count e (from_of m e) (to_of m e) (section_of m e) (material_of m (section_of m e)) more is

@@ -22,6 +22,7 @@ pub fn element_members(model: &Model, element: &Element) -> Result<ElementMember
     requires { KeepsElement model.now.nodes model.now.sections element.now }
     ensures value { result ≡ members_of model.now element.now }
     ensures count { IfOk result (λ members. length members ≡ member_count element.now.shape) }
+    ensures few { IfOk result (λ members. length members ≤ 8) }
     ensures limits { IfOk result (λ members. All (IsMemberOf element.now) members) }
     ensures encloses { EnclosesElement model.now element.now }
 {

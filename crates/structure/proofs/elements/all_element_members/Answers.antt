@@ -4,7 +4,7 @@ use Rattle.std.proofs.lemmas.List.Elements.{All-append}
 use Rattle.model_types.specs.declared.records.Element.{Element}
 use Rattle.structure.specs.Sound.{IsSound}
 use Rattle.structure.specs.Elements.{element_at, no_element}
-use Rattle.structure.proofs.MemberLemmas.{element_members-next, element_members-wide, members-read, members-sound, at_most_eight}
+use Rattle.structure.proofs.MemberLemmas.{element_members-next, element_members-wide, members-read, members-sound}
 use Rattle.structure.proofs.elements.all_element_members.Goals as goal
 
 pub returns-in-Err : goal.returns-in-Err
@@ -31,9 +31,8 @@ loop-number-preserved c =
     (get_or_read c.elements-elements.result.now c.loop-number.number element c.loop-number-test.true c.index-elements-number.is no_element) in
     let own = rw at at c.in-Ok.ensures.limits in
     let sound = members-sound c.args.model.now c.elements-elements.ensures.model c.loop-number.number inside c.in-Ok.more own in
-    let count = at_most_eight element.shape c.in-Ok.more c.in-Ok.ensures.count in
     record {
       value = rw items (element_members-next c.args.model.now c.loop-number.number c.loop-number.members.items c.in-Ok.more c.loop-number.invariant.value (here ∙ c.in-Ok.is));
       sound = rw items (All-append (IsSound (length c.args.model.now.nodes)) c.loop-number.members.items c.in-Ok.more c.loop-number.invariant.sound sound);
-      few = omega (arith, ap length items, length-append c.loop-number.members.items c.in-Ok.more, count);
+      few = omega (arith, ap length items, length-append c.loop-number.members.items c.in-Ok.more, c.in-Ok.ensures.few);
     }
