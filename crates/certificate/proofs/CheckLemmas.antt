@@ -14,7 +14,9 @@ use Rattle.int_laws.proofs.SumLaws.{sum_below-same, sum_below-nonnegative}
 use Rattle.sym_blocks.specs.Matrix.{Matrix as Blocks, node_count, entry as block_entry}
 use Rattle.factor_data.specs.Order.{position_of, freedom_at}
 use Rattle.factor_data.specs.Columns.{Columns, column_rows, column_values, column_entry, entry, IsFactor}
-use Rattle.factor_data.proofs.OrderLemmas.{position-below, row-below, position-of_row, spread-rising, contained_or_not}
+use Rattle.factor_data.proofs.OrderLemmas.{position-below, row-below, position-of_row}
+use Rattle.lists.proofs.PlaceLemmas.{spread-rising}
+use Rattle.lists.proofs.UniqueLemmas.{decide_contains}
 use Rattle.factor_data.proofs.ColumnLemmas.{part-listed, part-missing}
 use Rattle.certificate.specs.declared.row_lists.RowEntry.{RowEntry}
 use Rattle.flex_num.specs.declared.guarded.GuardedSum.{GuardedSum}
@@ -35,7 +37,7 @@ column-size : (f : Columns) (k i : ℕ) → IsFactor f → column_size (column_r
 column-size f k i kept =
     let rows = column_rows f k in
     let spread = spread-rising (column_rows f k) _ (kept.rising k) (λ j h. kept.in_range j k h) in
-    elim (contained_or_not (column_rows f k) i) [
+    elim (decide_contains (column_rows f k) i) [
       | inl found ↦
           let at = get_or_default (column_rows f k) found.0 0 i found.1 ∙ found.2 in
           part-listed absolute (column_rows f k) (column_values f k) _ found.0 i spread found.1 at

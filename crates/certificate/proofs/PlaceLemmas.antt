@@ -1,8 +1,9 @@
 -- The places of the nodes of an order are themselves an order.
 use Rattle.std.proofs.Common.{◌≡◌, ℕ, ◌*◌, ◌/◌, ◌<◌, ◌≤◌, sym, ◌∙◌, ap, arith, List, length, slice_index}
 use Rattle.std.proofs.lemmas.List.{get_or_default}
-use Rattle.factor_data.specs.Order.{place_of, position_of, freedom_at, IsOrder}
-use Rattle.factor_data.proofs.OrderLemmas.{place-found, place-at}
+use Rattle.factor_data.specs.Order.{position_of, freedom_at}
+use Rattle.lists.specs.Order.{place_of, IsOrder}
+use Rattle.lists.proofs.PlaceLemmas.{place-found, place-at}
 use Rattle.certificate.specs.Places.{IsPlaces}
 
 -- each node is given the place at which it stands

@@ -1,6 +1,6 @@
 -- The places of the nodes of an order.
 use Rattle.std.specs.Prelude.{ℕ, ◌<◌, ◌≡◌, List, length, slice_index}
-use Rattle.factor_data.specs.Order.{place_of}
+use Rattle.lists.specs.Order.{place_of}
 
 -- a list has the place of each node
 pub record IsPlaces (order places : List ℕ) : Type 0 where

@@ -2,7 +2,7 @@ ghost use Rattle.std.specs.Prelude.{◌≡◌, ℕ, ◌*◌, ◌^◌, ◌<◌, �
 ghost use Rattle.certificate.specs.RowSums.{IsClear};
 ghost use Rattle.certificate.specs.RowLists.{SumsRow, IsRowBeyond};
 ghost use Rattle.sym_blocks.specs.Matrix.{node_count, entry};
-ghost use Rattle.factor_data.specs.Order.{IsOrder};
+ghost use Rattle.lists.specs.Order.{IsOrder};
 ghost use Rattle.factor_data.specs.Columns.{IsFactor};
 ghost use Rattle.certificate.specs.RowResidual.{HasResidual, IsRowLost};
 ghost use Rattle.certificate.specs.Definiteness.{row_margin};

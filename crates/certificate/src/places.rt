@@ -1,5 +1,5 @@
 ghost use Rattle.std.specs.Prelude.{◌^◌, ◌≤◌, length, IfOk};
-ghost use Rattle.factor_data.specs.Order.{IsOrder};
+ghost use Rattle.lists.specs.Order.{IsOrder};
 ghost use Rattle.certificate.specs.Places.{IsPlaces};
 
 use std::alloc::{AllocError, Global};

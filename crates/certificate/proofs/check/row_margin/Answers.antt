@@ -2,7 +2,8 @@ use Rattle.std.proofs.Common.{arith, ap, subst, sym, ◌∙◌, ◌≡◌, ◌<�
 use Rattle.std.proofs.lemmas.List.{get_or_default}
 use Rattle.int_laws.specs.Sums.{sum_below}
 use Rattle.sym_blocks.specs.Matrix.{node_count, entry}
-use Rattle.factor_data.specs.Order.{freedom_at, IsOrder}
+use Rattle.factor_data.specs.Order.{freedom_at}
+use Rattle.lists.specs.Order.{IsOrder}
 use Rattle.certificate.specs.Places.{IsPlaces}
 use Rattle.certificate.specs.Space.{Lists, AreListsOf}
 use Rattle.certificate.proofs.PlaceLemmas.{places-order}
