@@ -96,14 +96,14 @@ fn row_margin(
         MatchOption result (RowIsRefused t row) (λ m. ((RowIsRefused t row → ⊥) × (pos m ≡ row_margin t row)) × (2 ^ 52 ≤ m)) }
     ensures kept { space.new ≡ space.old }
 {
-    let position = freedom_at(&space.places, row as usize);
+    let position = freedom_at(space.order.places(), row as usize);
     let entries = space.rows[position as usize].as_slice();
     let residual = residual_size(
         middle,
         shift,
         g,
         entries,
-        &space.places,
+        space.order.places(),
         row,
         &mut space.sums,
     )?;

@@ -1,7 +1,7 @@
 use Rattle.std.proofs.Common.{ap, ◌∙◌, List, [], ◌∷◌, ◌++◌}
 use Rattle.std.proofs.lemmas.List.{replicate_more}
 use Rattle.certificate.specs.declared.row_lists.RowEntry.{RowEntry}
-use Rattle.certificate.proofs.space.empty_lists.Goals as goal
+use Rattle.certificate.proofs.space.no_entries.Goals as goal
 
 pub loop-preserved : goal.loop-preserved
 loop-preserved c =
