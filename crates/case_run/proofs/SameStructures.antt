@@ -1,5 +1,5 @@
 -- A model has one structure, one pair of matrices, and one list of loads.
-use Rattle.std.specs.Prelude.{if◌then◌else◌, nat_eq, IsErr, IsOk, Result, Ok, Err, AllPairs}
+use Rattle.std.specs.Prelude.{if◌then◌else◌, nat_eq, IsErr, IsOk, Result, Ok, Err}
 use Rattle.std.proofs.Common.{◌≡◌, ℕ, zero, suc, ◌*◌, ◌^◌, ◌<◌, ◌≤◌, refl, sym, ◌∙◌, ap, ap₂, arith, List, [], ◌∷◌, length, Contains, ext_get_or, ℤ, pos, ◌-ℤ◌, ◌*ℤ◌, inl, inr}
 use Rattle.std.proofs.lemmas.Bool.{cases_lt}
 use Rattle.flex_interval.specs.Ends.{Ends}
@@ -17,6 +17,7 @@ use Rattle.cholesky_laws.specs.Recurrence.{freedom_at, scaled}
 use Rattle.lists.specs.Order.{IsOrder}
 use Rattle.factor_data.proofs.OrderLemmas.{row-below}
 use Rattle.factor.specs.State.{matrix_of}
+use Rattle.lists.proofs.UniqueLemmas.{rising_unique}
 use Rattle.structure.specs.Structure.{IsStructureOf, model_members}
 use Rattle.load_vectors.specs.Loads.{AreLoads, IsFirstWideLoad, row_load}
 use Rattle.case_run.specs.Causes.{IsElementCause, first_element, IsMatrixCause, matrix_row, IsLoadCause, load_row, width_matrix, width_load}
