@@ -1,5 +1,5 @@
 use Rattle.lists.specs.Rising.{IsRising}
-use Rattle.base_tests.proofs.lists.keeps_each_number_once.Given as goal
+use Rattle.base_tests.proofs.rising.keeps_each_number_once.Given as goal
 
 abbrev pub invariant-loop-number : goal.invariant-loop-number
 invariant-loop-number g l = IsRising l.list.items
