@@ -8,7 +8,7 @@ pub returns : goal.returns
 unfolding canonical
 returns c =
     let m = c.args.model.now in
-    let header = c.in_ok-push_line.ensures ∙ ap (λ l. l ++ line (codes "pipeflex" ∷ codes "1" ∷ [])) c.new-out.ensures.items in
+    let header = c.in_ok-push_line.ensures.written ∙ ap (λ l. l ++ line (codes "pipeflex" ∷ codes "1" ∷ [])) c.new-out.ensures.items in
     let materials = c.in_ok-put_materials.ensures ∙ ap (λ l. l ++ lines_of (map material_words m.materials)) header in
     let sections = c.in_ok-put_sections.ensures ∙ ap (λ l. l ++ lines_of (map (section_words m) m.sections)) materials in
     let nodes = c.in_ok-put_nodes.ensures ∙ ap (λ l. l ++ lines_of (map node_words m.nodes)) sections in
