@@ -65,4 +65,3 @@ pub returns-in_err-n-clause-fits : goal.returns-in_err-n-clause-fits
 returns-in_err-n-clause-fits g c = λ room.
     let before = c.loop-rest.invariant.written in
     absurd (failed_ok (c.in_err-n.ensures.fits (HasRoom-rest _ _ _ before.0 c.loop-rest.rest.now before.2 before.3 room)))
-
