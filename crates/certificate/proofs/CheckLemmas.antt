@@ -17,11 +17,12 @@ use Rattle.factor_data.specs.Columns.{Columns, column_rows, column_values, colum
 use Rattle.factor_data.proofs.OrderLemmas.{position-below, row-below, position-of_row, spread-rising, contained_or_not}
 use Rattle.factor_data.proofs.ColumnLemmas.{part-listed, part-missing}
 use Rattle.certificate.specs.declared.row_lists.RowEntry.{RowEntry}
-use Rattle.certificate.specs.declared.row_sums.Sum.{Sum}
-use Rattle.certificate.specs.QuadraticForm.{absolute, scalar_matrix}
+use Rattle.flex_num.specs.declared.guarded.GuardedSum.{GuardedSum}
+use Rattle.int_laws.specs.Matrices.{absolute, scalar_matrix}
 use Rattle.certificate.specs.Definiteness.{CholeskyTest, residual, row_margin, RowFails, IsDefinitenessMargin}
 use Rattle.certificate.specs.Places.{IsPlaces}
-use Rattle.certificate.specs.RowSums.{zero_sum, column_size}
+use Rattle.certificate.specs.RowSums.{column_size}
+use Rattle.flex_num.specs.Guarded.{zero_sum}
 use Rattle.certificate.specs.RowLists.{list_of, row_product, ListsRow, SumsRow, IsRowBeyond}
 use Rattle.certificate.specs.Space.{Lists, AreListsOf}
 use Rattle.certificate.specs.RowResidual.{missed, HasResidual, IsRowLost}
@@ -60,7 +61,7 @@ sizes f list p j kept lists =
     ∙ sym (absolute-mul (entry f p k) (entry f j k)))
 
 -- what the sums miss is the residual
-missed-residual : (middle radii : Blocks) (f : Columns) (shift : ℤ) (places : List ℕ) (list : List RowEntry) (sums : List Sum) (row c : ℕ) → IsFactor f →
+missed-residual : (middle radii : Blocks) (f : Columns) (shift : ℤ) (places : List ℕ) (list : List RowEntry) (sums : List GuardedSum) (row c : ℕ) → IsFactor f →
     length f.order ≡ node_count middle → IsPlaces f.order places → ListsRow f (position_of f.order row) list → length sums ≡ 6 * length f.order → SumsRow f list sums →
     c < 6 * node_count middle → missed middle shift places sums row c ≡ residual (test_of middle radii f shift) row c
 missed-residual middle radii f shift places list sums row c kept same placed lists positions summed inside =
@@ -92,14 +93,14 @@ beyond-refused middle radii f shift list row kept same lists beyond =
     )
 
 -- and one that is summed is not too large
-summed-small : (middle radii : Blocks) (f : Columns) (shift : ℤ) (list : List RowEntry) (sums : List Sum) (row j : ℕ) → IsFactor f → length f.order ≡ node_count middle →
+summed-small : (middle radii : Blocks) (f : Columns) (shift : ℤ) (list : List RowEntry) (sums : List GuardedSum) (row j : ℕ) → IsFactor f → length f.order ≡ node_count middle →
     ListsRow f (position_of f.order row) list → length sums ≡ 6 * length f.order → SumsRow f list sums → j < 6 * node_count middle →
     product_sizes (test_of middle radii f shift) row j <ℤ pos (2 ^ 126)
 summed-small middle radii f shift list sums row j kept same lists positions summed inside =
     let at = position_of f.order j in
     let below : position_of f.order j < length sums = omega (arith, positions, position-below f.order j kept.order (omega (arith, same))) in
     let size = summed.size (position_of f.order j) below ∙ sizes f list (position_of f.order row) (position_of f.order j) kept lists in
-    omega (arith, int_sums, size, (get_or sums (position_of f.order j) zero_sum).small)
+    omega (arith, int_sums, size, (get_or sums (position_of f.order j) zero_sum).narrow)
 
 radius-up : (radii : Blocks) (n row : ℕ) → ((i j : ℕ) → pos 0 ≤ℤ block_entry radii i j) → pos 0 ≤ℤ sum_below n (λ j. block_entry radii row j)
 radius-up radii n row up = sum_below-nonnegative n (λ j. block_entry radii row j) (λ j _. up row j)
@@ -129,7 +130,7 @@ margin-is middle radii f shift places list row r radius kept same placed lists h
     ∙ ap (λ (z : ℤ). ((pos (2 ^ 52) *ℤ pos shift) -ℤ sum_below (6 * node_count middle) (λ j. absolute (residual (test_of middle radii f (pos shift)) row j))) -ℤ (pos (2 ^ 52) *ℤ z)) is_radius
 
 not_refused : (middle radii : Blocks) (f : Columns) (shift : ℕ) (list : List RowEntry) (row m : ℕ) → IsFactor f → length f.order ≡ node_count middle →
-    ListsRow f (position_of f.order row) list → (sums : List Sum) → length sums ≡ 6 * length f.order → SumsRow f list sums →
+    ListsRow f (position_of f.order row) list → (sums : List GuardedSum) → length sums ≡ 6 * length f.order → SumsRow f list sums →
     pos m ≡ row_margin (test_of middle radii f (pos shift)) row → 2 ^ 52 ≤ m → RowIsRefused (test_of middle radii f (pos shift)) row → ⊥
 not_refused middle radii f shift list row m kept same lists sums positions summed margin enough (inl (j, inside, large)) =
     let small = summed-small middle radii f (pos shift) list sums row j kept same lists positions summed inside in

@@ -1,4 +1,3 @@
-pub mod QuadraticForm
 pub mod Definiteness
 pub mod Enclosure
 pub mod Bounds

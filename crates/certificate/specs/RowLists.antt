@@ -2,10 +2,11 @@
 use Rattle.std.specs.Prelude.{ℕ, ◌*◌, ◌^◌, ◌<◌, ◌≡◌, ℤ, pos, ◌+ℤ◌, ◌*ℤ◌, ◌≤ℤ◌, List, [], length, slice_index_or}
 use Rattle.int_laws.specs.Sums.{sum_below}
 use Rattle.certificate.specs.declared.row_lists.RowEntry.{RowEntry}
-use Rattle.certificate.specs.QuadraticForm.{Vector, absolute}
+use Rattle.int_laws.specs.Matrices.{Vector, absolute}
 use Rattle.factor_data.specs.Columns.{Columns, column_rows, column_values, column_entry}
-use Rattle.certificate.specs.declared.row_sums.Sum.{Sum}
-use Rattle.certificate.specs.RowSums.{value_at, size_at, column_size}
+use Rattle.flex_num.specs.declared.guarded.GuardedSum.{GuardedSum}
+use Rattle.certificate.specs.RowSums.{column_size}
+use Rattle.flex_num.specs.Guarded.{value_at, size_at}
 
 abbrev pub no_entry : RowEntry
 no_entry = record { column = 0; value = pos 0 }
@@ -37,7 +38,7 @@ pub record ListsRow (f : Columns) (i : ℕ) (list : List RowEntry) : Type 0 wher
   pub size : (x : Vector) → row_product absolute list x ≡ sum_below (6 * length f.order) (λ k. column_size (column_rows f k) (column_values f k) i *ℤ x k)
 
 -- the sums are the row's products with every row
-pub record SumsRow (f : Columns) (list : List RowEntry) (sums : List Sum) : Type 0 where
+pub record SumsRow (f : Columns) (list : List RowEntry) (sums : List GuardedSum) : Type 0 where
   pub value : (j : ℕ) → j < length sums → value_at sums j ≡ row_product (λ z. z) list (λ k. column_entry (column_rows f k) (column_values f k) j)
   pub size : (j : ℕ) → j < length sums → pos (size_at sums j) ≡ row_product absolute list (λ k. column_size (column_rows f k) (column_values f k) j)
 

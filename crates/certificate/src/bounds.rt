@@ -3,7 +3,7 @@ ghost use Rattle.flex_interval.specs.Ends.{Ends};
 ghost use Rattle.member_set.specs.Members.{IsBuilt, FitsBuilt, IsModerate, row_count, member_of, force_of, nothing};
 ghost use Rattle.member_set.specs.Realisation.{Realisation, IsRealisation, IsEquilibrium};
 ghost use Rattle.member_set.specs.Interval.{AreForces, residual_of};
-ghost use Rattle.certificate.specs.QuadraticForm.{Vector};
+ghost use Rattle.int_laws.specs.Matrices.{Vector};
 ghost use Rattle.certificate.specs.Enclosure.{IsResidualLength, AreForcesWithin, widened, alone, force_radius_of};
 ghost use Rattle.certificate.specs.Bounds.{AreStiff, IsDefiniteRealisation, HasResiduals, length_of, sum_of_squares, AreBounds, HasNoBounds, EnclosesEquilibrium};
 ghost use Rattle.certificate.specs.Widening.{AreLimited, AreWidened, AreAroundDisplacements, IsTooUnsteady, only};

@@ -55,6 +55,14 @@ sub_of a b = and_then (small_of (a.lo -ℤ b.hi)) (λ lo. and_then (small_of (a.
 abbrev pub holds_zero : Ends → Bool
 holds_zero b = int_le b.lo (pos 0) && int_le (pos 0) b.hi
 
+-- half the sum of the ends, rounded down
+abbrev pub middle_of : Ends → ℤ
+middle_of e = floor_of (e.lo +ℤ e.hi) (pos 2)
+
+-- how far the upper end is from the middle
+abbrev pub radius_of : Ends → ℤ
+radius_of e = e.hi -ℤ middle_of e
+
 -- the sizes of the numbers of a
 unfoldable pub abs_of : Ends → Ends
 abs_of a = if holds_zero a then ends (pos 0) (int_max (neg_ℤ a.lo) a.hi) else (if int_lt (pos 0) a.lo then a else neg_of a)
@@ -69,9 +77,12 @@ min_of a b = ends (int_min a.lo b.lo) (int_min a.hi b.hi)
 unfoldable pub multiple_of : Ends → ℤ → Result Ends IvFault
 multiple_of a n = and_then (product_of a.lo n) (λ x. and_then (product_of a.hi n) (λ y. Ok (ends (int_min x y) (int_max x y))))
 
--- the least and the greatest of the products of an end by an end: b.lo a and b.hi a together
+-- the least and the greatest of the products of an end by an end
 unfoldable pub products_of : Ends → Ends → Result Ends IvFault
-products_of a b = and_then (multiple_of a b.lo) (λ p. and_then (multiple_of a b.hi) (λ q. Ok (ends (int_min p.lo q.lo) (int_max p.hi q.hi))))
+products_of a b =
+    and_then (product_of a.lo b.lo) (λ p. and_then (product_of a.hi b.lo) (λ q.
+    and_then (product_of a.lo b.hi) (λ r. and_then (product_of a.hi b.hi) (λ s.
+    Ok (ends (least p q r s) (greatest p q r s))))))
 
 -- a b / 2^s
 unfoldable pub mul_of : Ends → Ends → ℕ → Result Ends IvFault

@@ -4,6 +4,7 @@
 mod fault;
 mod interval;
 mod order;
+mod parts;
 mod product;
 mod quotient;
 mod scale;
@@ -13,6 +14,7 @@ mod sum;
 pub use fault::{IvFault, Wide};
 pub use interval::{Iv, point};
 pub use order::{abs, max, min};
+pub use parts::{middle, radius};
 pub use product::mul;
 pub use quotient::div;
 pub use scale::ratio;

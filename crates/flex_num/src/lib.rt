@@ -1,10 +1,12 @@
-// Quotients, roots and products of whole numbers, each exact or rounded in the direction that its name says.
+// Quotients, roots, products and guarded sums of whole numbers, each exact or rounded in the direction that its name says.
 #![tactic(auto)]
 
 mod division;
+mod guarded;
 mod product;
 mod root;
 
 pub use division::{ceil_div, floor_div, nearest_div};
+pub use guarded::{GUARD, GuardedSum};
 pub use product::mul;
 pub use root::{isqrt, isqrt_up};

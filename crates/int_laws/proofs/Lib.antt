@@ -1,3 +1,4 @@
 pub mod Sums
 pub mod Products
 pub mod SumLaws
+pub mod FormLaws

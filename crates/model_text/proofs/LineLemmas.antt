@@ -1,5 +1,6 @@
 -- Lemmas on reading line by line.
-use Rattle.std.proofs.Common.{◌≡◌, ℕ, ◌+◌, ◌<◌, ◌≤◌, ◌==◌, Bool, true, false, nat_lt, List, [], ◌∷◌, ◌++◌, ◌⊎◌, inl, inr, ⊎_elim, IsOkAnd, subst, length, length-append, append_assoc, Result, Ok, Err, if◌then◌else◌, refl, sym, ap, ◌∙◌, arith}
+use Rattle.std.proofs.Common.{◌≡◌, ◌≢◌, ℕ, ◌+◌, ◌<◌, ◌≤◌, ◌==◌, Bool, true, false, nat_lt, List, [], ◌∷◌, ◌++◌, IsOkAnd, IfOk, true≢false, subst, length, length-append, append_assoc, Result, Ok, Err, if◌then◌else◌, refl, sym, ap, ◌∙◌, arith}
+use Rattle.std.proofs.lemmas.Bool.{cond-true, cond-false, ne_eqb}
 use Rattle.std.proofs.lemmas.Bool.Decides.{nat_tests}
 use Rattle.std.proofs.lemmas.List.Splits.{length-slice_split}
 use Rattle.std.proofs.lemmas.List.Sums.{count_by-le-length}
@@ -7,12 +8,11 @@ use Rattle.model_types.specs.declared.faults.AddFault.{AddFault}
 use Rattle.model_types.specs.declared.faults.AddFault.TheVariants as line_fault
 use Rattle.model_types.specs.Lists.{Lists}
 use Rattle.text_words.specs.Fields.{lines}
-use Rattle.model_text.specs.Lines.{start, after_line, at_line}
-use Rattle.model_text.specs.Grammar.{Refusal, go_on, after_lines, whole, parsed, longest_text, IsFault, IsWholeFault, IsLineOfNode}
-use Rattle.model_text.specs.declared.reader.Reading.{Reading}
+use Rattle.model_text.specs.Lines.{State, start, after_line, at_line}
+use Rattle.model_text.specs.Grammar.{Refusal, go_on, after_lines, whole, parsed, longest_text, IsFault, IsLineOfNode, IsRefusedAt, too_long, by_line, no_header, no_node, StandsFor, RefusalsAreReasons, ModelsAreAccepted}
 use Rattle.model_text.specs.declared.reader.TextFault.TheVariants as text_fault
 
-module _ (s : Reading) (n : ℕ) where
+module _ (s : State) (n : ℕ) where
   -- no line changes nothing
   pub after_lines-nil : after_lines s n [] ≡ Ok s
   unfolding after_lines
@@ -20,7 +20,7 @@ module _ (s : Reading) (n : ℕ) where
 
   module _ (line : List ℕ) (rest : List (List ℕ)) where
     -- an accepted line hands on what it made
-    pub after_lines-Ok : (t : Reading) → after_line s line ≡ Ok t → after_lines s n (line ∷ rest) ≡ after_lines t (n + 1) rest
+    pub after_lines-Ok : (t : State) → after_line s line ≡ Ok t → after_lines s n (line ∷ rest) ≡ after_lines t (n + 1) rest
     unfolding after_lines
     after_lines-Ok t e = ap (λ r. go_on n r (λ t. after_lines t (n + 1) rest)) e
 
@@ -63,15 +63,15 @@ err_no_ok : {A E : Type 0} (x : A) (e : E) → Err e ≡ Ok x → ⊥
 err_no_ok x e h = cc
 
 -- the lines before and after are read one after the other
-module _ (s t : Reading) (n : ℕ) (x : List ℕ) (xs ys : List (List ℕ)) where
-  append_step : ((u : Reading) → after_lines u (n + 1) xs ≡ Ok t → after_lines u (n + 1) (xs ++ ys) ≡ after_lines t (n + 1 + length xs) ys)
-      → (r : Result Reading ℕ) → after_line s x ≡ r → after_lines s n (x ∷ xs) ≡ Ok t → after_lines s n (x ∷ (xs ++ ys)) ≡ after_lines t (n + length (x ∷ xs)) ys
+module _ (s t : State) (n : ℕ) (x : List ℕ) (xs ys : List (List ℕ)) where
+  append_step : ((u : State) → after_lines u (n + 1) xs ≡ Ok t → after_lines u (n + 1) (xs ++ ys) ≡ after_lines t (n + 1 + length xs) ys)
+      → (r : Result State ℕ) → after_line s x ≡ r → after_lines s n (x ∷ xs) ≡ Ok t → after_lines s n (x ∷ (xs ++ ys)) ≡ after_lines t (n + length (x ∷ xs)) ys
   append_step rest (Ok u) f e =
       let place : n + 1 + length xs ≡ n + length (x ∷ xs) = omega arith in
       after_lines-Ok s n x (xs ++ ys) u f ∙ rest u (sym (after_lines-Ok s n x xs u f) ∙ e) ∙ ap (λ k. after_lines t k ys) place
   append_step rest (Err k) f e = absurd (err_no_ok t (record { number = k; line = n }) (sym (after_lines-Err s n x xs k f) ∙ e))
 
-pub after_lines-append : (s t : Reading) (n : ℕ) (xs ys : List (List ℕ)) → after_lines s n xs ≡ Ok t → after_lines s n (xs ++ ys) ≡ after_lines t (n + length xs) ys
+pub after_lines-append : (s t : State) (n : ℕ) (xs ys : List (List ℕ)) → after_lines s n xs ≡ Ok t → after_lines s n (xs ++ ys) ≡ after_lines t (n + length xs) ys
 after_lines-append s t n [] ys e =
     let same : s ≡ t = ok_same (after_lines s n []) s t (after_lines-nil s n) e in
     let place : n ≡ n + 0 = omega arith in
@@ -79,18 +79,18 @@ after_lines-append s t n [] ys e =
 after_lines-append s t n (x ∷ xs) ys e = append_step s t n x xs ys (λ u. after_lines-append u t (n + 1) xs ys) (after_line s x) refl e
 
 -- a refusal by some line, where the reading begins with s at line n
-record FaultFrom (s : Reading) (n : ℕ) (all : List (List ℕ)) (number line : ℕ) : Type 0 where
+record FaultFrom (s : State) (n : ℕ) (all : List (List ℕ)) (number line : ℕ) : Type 0 where
   before : List (List ℕ)
   at : List ℕ
   behind : List (List ℕ)
-  read : Reading
+  read : State
   lines_are : all ≡ before ++ at ∷ behind
   line_is : line ≡ length before + n
   accepted : after_lines s n before ≡ Ok read
   fault : after_line read at ≡ Err number
 
-fault_step : (s : Reading) (n : ℕ) (x : List ℕ) (xs : List (List ℕ)) (refusal : Refusal) → ((u : Reading) → after_lines u (n + 1) xs ≡ Err refusal → FaultFrom u (n + 1) xs refusal.number refusal.line)
-    → (r : Result Reading ℕ) → after_line s x ≡ r → after_lines s n (x ∷ xs) ≡ Err refusal → FaultFrom s n (x ∷ xs) refusal.number refusal.line
+fault_step : (s : State) (n : ℕ) (x : List ℕ) (xs : List (List ℕ)) (refusal : Refusal) → ((u : State) → after_lines u (n + 1) xs ≡ Err refusal → FaultFrom u (n + 1) xs refusal.number refusal.line)
+    → (r : Result State ℕ) → after_line s x ≡ r → after_lines s n (x ∷ xs) ≡ Err refusal → FaultFrom s n (x ∷ xs) refusal.number refusal.line
 fault_step s n x xs refusal rest (Ok u) f e =
     let later = rest u (sym (after_lines-Ok s n x xs u f) ∙ e) in
     record {
@@ -108,7 +108,7 @@ fault_step s n x xs refusal rest (Err k) f e =
     let place : n ≡ 0 + n = omega arith in
     record { before = []; at = x; behind = xs; read = s; lines_are = refl; line_is = sym (ap (λ r. r.line) same) ∙ place; accepted = after_lines-nil s n; fault = f ∙ ap Err (ap (λ r. r.number) same) }
 
-fault_from : (s : Reading) (n : ℕ) (all : List (List ℕ)) (refusal : Refusal) → after_lines s n all ≡ Err refusal → FaultFrom s n all refusal.number refusal.line
+fault_from : (s : State) (n : ℕ) (all : List (List ℕ)) (refusal : Refusal) → after_lines s n all ≡ Err refusal → FaultFrom s n all refusal.number refusal.line
 fault_from s n [] refusal e = absurd (ok_no_err s refusal (sym (after_lines-nil s n) ∙ e))
 fault_from s n (x ∷ xs) refusal e = fault_step s n x xs refusal (λ u. fault_from u (n + 1) xs refusal) (after_line s x) refl e
 
@@ -116,51 +116,128 @@ fault_from s n (x ∷ xs) refusal e = fault_step s n x xs refusal (λ u. fault_f
 missing : ℕ → Refusal
 missing number = record { number = number; line = 1 }
 
-whole_cases : (header none : Bool) (m : Lists) (refusal : Refusal) → (if header then (if none then Err (missing 15) else Ok m) else Err (missing 3)) ≡ Err refusal
-    → (refusal.line ≡ 1) × (((refusal.number ≡ 3) × (header ≡ false)) ⊎ ((refusal.number ≡ 15) × (none ≡ true)))
-unfolding missing
-whole_cases true true m refusal e = let r : Result Lists Refusal = Err (missing 15) in let same = err_same r (missing 15) refusal refl e in (sym (ap (λ r. r.line) same), inr (sym (ap (λ r. r.number) same), refl))
-whole_cases true false m refusal e = absurd (ok_no_err m refusal e)
-whole_cases false none m refusal e = let r : Result Lists Refusal = Err (missing 3) in let same = err_same r (missing 3) refusal refl e in (sym (ap (λ r. r.line) same), inl (sym (ap (λ r. r.number) same), refl))
-
+-- what the whole text lacks
 empty_list : {X : Type 0} (xs : List X) → (length xs == 0) ≡ true → xs ≡ []
 empty_list [] e = refl
 empty_list (x ∷ xs) e = absurd (grind (arith, nat_tests))
 
--- a text's refusal by a line, or as a whole
-lines_refusal : (text : List ℕ) (r : Result Reading Refusal) (refusal : Refusal) → after_lines start 1 (lines text) ≡ r → whole r ≡ Err refusal
-    → IsFault text refusal.number refusal.line ⊎ IsWholeFault text refusal.number refusal.line
-unfolding missing
-lines_refusal text (Err other) refusal e w =
-    let same = err_same (whole (Err other)) other refusal refl w in
-    let f = fault_from start 1 (lines text) refusal (e ∙ ap Err same) in
-    inl (record { at = f.at; read = f.read; is_line = record { before = f.before; behind = f.behind; lines_are = f.lines_are; line_is = f.line_is; accepted = f.accepted }; fault = f.fault })
-lines_refusal text (Ok s) refusal e w =
-    let why = whole_cases s.header (length s.draft.nodes == 0) s.draft refusal w in
-    inr (record { first_line = why.0; reason = inr (s, e, ⊎_elim (λ h. inl h) (λ h. inr (h.0, empty_list s.draft.nodes h.1)) why.1) })
+not_empty : {X : Type 0} (xs : List X) → (length xs == 0) ≡ false → xs ≢ []
+not_empty xs some none = true≢false (ap (λ l. length l == 0) (sym none) ∙ some)
 
--- a refused text has a faulty line, or is refused as a whole
-pub parsed-refused : (text : List ℕ) (refusal : Refusal) → parsed text ≡ Err refusal → IsFault text refusal.number refusal.line ⊎ IsWholeFault text refusal.number refusal.line
-parsed-refused text refusal e = by (nat_lt longest_text (length text)) refl
-  where
-    by : (b : Bool) → nat_lt longest_text (length text) ≡ b → IsFault text refusal.number refusal.line ⊎ IsWholeFault text refusal.number refusal.line
-    by true t =
-        let long : longest_text < length text = grind (arith, nat_tests) in
-        let same = err_same (parsed text) (record { number = 1; line = 1 }) refusal (parsed-long text long) e in
-        inr (record { first_line = sym (ap (λ r. r.line) same); reason = inl (sym (ap (λ r. r.number) same), long) })
-    by false t =
-        let short : length text ≤ 4194304 = grind (arith, nat_tests) in
-        lines_refusal text (after_lines start 1 (lines text)) refusal refl (sym (parsed-lines text short) ∙ e)
+some_there : {X : Type 0} (xs : List X) → xs ≢ [] → (length xs == 0) ≡ false
+some_there [] some = absurd (some refl)
+some_there (x ∷ xs) some = ne_eqb (length (x ∷ xs)) 0 (λ none. omega arith)
+
+module _ (text : List ℕ) where
+  -- a text's reason has the refusal's number and line
+  reason_as : (refusal told : Refusal) → refusal ≡ told → IsRefusedAt text refusal.number refusal.line → IsRefusedAt text told.number told.line
+  reason_as refusal told same reason = subst (λ r. IsRefusedAt text r.number r.line) same reason
+
+  module _ (short : length text ≤ longest_text) where
+    lacks : (made : State) (header none : Bool) (refusal : Refusal) → after_lines start 1 (lines text) ≡ Ok made → made.header ≡ header → (length made.draft.nodes == 0) ≡ none
+        → whole (Ok made) ≡ Err refusal → IsRefusedAt text refusal.number refusal.line
+    unfolding missing
+    lacks made false none refusal e h n w =
+        let w3 : whole (Ok made) ≡ Err (missing 3) = cond-false made.header _ _ h in
+        reason_as (missing 3) refusal (err_same (whole (Ok made)) (missing 3) refusal w3 w) (no_header made (record { short = short; accepted = e }) h)
+    lacks made true true refusal e h n w =
+        let w15 : whole (Ok made) ≡ Err (missing 15) = cond-true made.header _ _ h ∙ cond-true (length made.draft.nodes == 0) _ _ n in
+        reason_as (missing 15) refusal (err_same (whole (Ok made)) (missing 15) refusal w15 w) (no_node made (record { short = short; accepted = e }) h (empty_list made.draft.nodes n))
+    lacks made true false refusal e h n w =
+        let ok : whole (Ok made) ≡ Ok made.draft = cond-true made.header _ _ h ∙ cond-false (length made.draft.nodes == 0) _ _ n in
+        absurd (ok_no_err made.draft refusal (sym ok ∙ w))
+
+    -- a text that is short enough is refused by a line, or for what it lacks
+    refused_short : (r : Result State Refusal) (refusal : Refusal) → after_lines start 1 (lines text) ≡ r → whole r ≡ Err refusal → IsRefusedAt text refusal.number refusal.line
+    refused_short (Err other) refusal e w =
+        let same = err_same (whole (Err other)) other refusal refl w in
+        let f = fault_from start 1 (lines text) refusal (e ∙ ap Err same) in
+        by_line refusal.number refusal.line short
+        (record { at = f.at; read = f.read; is_line = record { before = f.before; behind = f.behind; lines_are = f.lines_are; line_is = f.line_is; accepted = f.accepted }; fault = f.fault })
+    refused_short (Ok made) refusal e w = lacks made made.header (length made.draft.nodes == 0) refusal e refl refl w
+
+    -- a text that is read stands for what its lines made
+    stands_short : (r : Result State Refusal) (m : Lists) → after_lines start 1 (lines text) ≡ r → whole r ≡ Ok m → StandsFor text m
+    stands_short (Err other) m e w = absurd (err_no_ok m other w)
+    stands_short (Ok made) m e w = by made.header (length made.draft.nodes == 0) refl refl
+      where
+        by : (header none : Bool) → made.header ≡ header → (length made.draft.nodes == 0) ≡ none → StandsFor text m
+        by false none h n = absurd (err_no_ok m (record { number = 3; line = 1 }) (sym (cond-false made.header _ _ h) ∙ w))
+        by true true h n = absurd (err_no_ok m (record { number = 15; line = 1 }) (sym (cond-true made.header _ _ h ∙ cond-true (length made.draft.nodes == 0) _ _ n) ∙ w))
+        by true false h n =
+            let is : made.draft ≡ m = ok_same (whole (Ok made)) made.draft m (cond-true made.header _ _ h ∙ cond-false (length made.draft.nodes == 0) _ _ n) w in
+            subst (StandsFor text) is
+            (record {
+              accepted = record { short = short; accepted = e ∙ ap (λ b. Ok (record made { header = b })) h };
+              some_node = not_empty made.draft.nodes n;
+            })
+
+    -- a line at fault is where the reading ends
+    parsed-fault : (number line : ℕ) → IsFault text number line → parsed text ≡ Err (record { number = number; line = line })
+    parsed-fault number line f =
+        let l = f.is_line in
+        let place : 1 + length l.before ≡ line = omega (arith, l.line_is) in
+        parsed-lines text short
+        ∙ ap (λ all. whole (after_lines start 1 all)) l.lines_are
+        ∙ ap whole (after_lines-append start f.read 1 l.before (f.at ∷ l.behind) l.accepted)
+        ∙ ap whole (after_lines-Err f.read (1 + length l.before) f.at l.behind number f.fault)
+        ∙ ap (λ k. Err (record { number = number; line = k })) place
+
+  -- a refused text has a reason
+  pub parsed-refused : (refusal : Refusal) → parsed text ≡ Err refusal → IsRefusedAt text refusal.number refusal.line
+  unfolding missing
+  parsed-refused refusal e = by (nat_lt longest_text (length text)) refl
+    where
+      by : (b : Bool) → nat_lt longest_text (length text) ≡ b → IsRefusedAt text refusal.number refusal.line
+      by true t =
+          let long : longest_text < length text = grind (arith, nat_tests) in
+          reason_as (missing 1) refusal (err_same (parsed text) (missing 1) refusal (parsed-long text long) e) (too_long long)
+      by false t =
+          let short : length text ≤ 4194304 = grind (arith, nat_tests) in
+          refused_short short (after_lines start 1 (lines text)) refusal refl (sym (parsed-lines text short) ∙ e)
+
+  -- a text that is read is short enough, and stands for what is read
+  pub parsed-stands : (m : Lists) → parsed text ≡ Ok m → StandsFor text m
+  parsed-stands m e = by (nat_lt longest_text (length text)) refl
+    where
+      by : (b : Bool) → nat_lt longest_text (length text) ≡ b → StandsFor text m
+      by true t =
+          let long : longest_text < length text = grind (arith, nat_tests) in
+          absurd (err_no_ok m (record { number = 1; line = 1 }) (sym (parsed-long text long) ∙ e))
+      by false t =
+          let short : length text ≤ 4194304 = grind (arith, nat_tests) in
+          stands_short short (after_lines start 1 (lines text)) m refl (sym (parsed-lines text short) ∙ e)
+
+-- and the other way
+refused-parsed : (text : List ℕ) (number line : ℕ) → IsRefusedAt text number line → parsed text ≡ Err (record { number = number; line = line })
+refused-parsed text _ _ (too_long long) = parsed-long text long
+refused-parsed text _ _ (by_line number line short f) = parsed-fault text short number line f
+refused-parsed text _ _ (no_header made all h) = parsed-lines text all.short ∙ ap whole all.accepted ∙ cond-false made.header _ _ h
+refused-parsed text _ _ (no_node made all h none) =
+    parsed-lines text all.short ∙ ap whole all.accepted ∙ cond-true made.header _ _ h ∙ cond-true (length made.draft.nodes == 0) _ _ (ap (λ l. length l == 0) none)
+
+stands-parsed : (text : List ℕ) (m : Lists) → StandsFor text m → parsed text ≡ Ok m
+stands-parsed text m s = parsed-lines text s.accepted.short ∙ ap whole s.accepted.accepted ∙ cond-false (length m.nodes == 0) _ _ (some_there m.nodes s.some_node)
+
+pub refusals_are_reasons : RefusalsAreReasons
+refusals_are_reasons text number line = (parsed-refused text (record { number = number; line = line }), refused-parsed text number line)
+
+pub models_are_accepted : ModelsAreAccepted
+models_are_accepted text m = (parsed-stands text m, stands-parsed text m)
+
+pub if_stands : {T E : Type 0} (text : List ℕ) (lists : T → Lists) (r : Result T E) → IfOk r (λ x. parsed text ≡ Ok (lists x)) → IfOk r (λ x. StandsFor text (lists x))
+if_stands text lists (Ok x) read = parsed-stands text (lists x) read
+if_stands text lists (Err e) read = tt
 
 -- the lines before line n are accepted, made `read` and not the node of that number, and `left` are the lines from n on
-pub record IsReadUpTo (text : List ℕ) (left : List (List ℕ)) (n : ℕ) (read : Reading) (node : ℕ) : Type 0 where
+pub record IsReadUpTo (text : List ℕ) (left : List (List ℕ)) (n : ℕ) (read : State) (node : ℕ) : Type 0 where
   pub before : List (List ℕ)
   pub lines_are : lines text ≡ before ++ left
   pub line_is : n ≡ length before + 1
   pub accepted : after_lines start 1 before ≡ Ok read
   pub not_before : length read.draft.nodes ≤ node
 
-module _ (text : List ℕ) (left : List (List ℕ)) (n : ℕ) (read : Reading) (node : ℕ) (up_to : IsReadUpTo text left n read node) where
+module _ (text : List ℕ) (left : List (List ℕ)) (n : ℕ) (read : State) (node : ℕ) (up_to : IsReadUpTo text left n read node) where
   -- the whole text is read as the lines left are after these
   after_left : after_lines start 1 (lines text) ≡ after_lines read n left
   after_left =
@@ -169,7 +246,7 @@ module _ (text : List ℕ) (left : List (List ℕ)) (n : ℕ) (read : Reading) (
 
   module _ (at : List ℕ) (behind : List (List ℕ)) (next : left ≡ at ∷ behind) where
     -- one more accepted line that doesn't make the node
-    pub IsReadUpTo-more : (new : Reading) → after_line read at ≡ Ok new → length new.draft.nodes ≤ node → IsReadUpTo text behind (n + 1) new node
+    pub IsReadUpTo-more : (new : State) → after_line read at ≡ Ok new → length new.draft.nodes ≤ node → IsReadUpTo text behind (n + 1) new node
     IsReadUpTo-more new ok small =
         let place : n + 1 ≡ length (up_to.before ++ at ∷ []) + 1 = omega (arith, up_to.line_is, length-append up_to.before (at ∷ [])) in
         record {
@@ -181,7 +258,7 @@ module _ (text : List ℕ) (left : List (List ℕ)) (n : ℕ) (read : Reading) (
         }
 
     -- the accepted line that makes it
-    pub IsLineOfNode-next : (new : Reading) → after_line read at ≡ Ok new → node < length new.draft.nodes → IsLineOfNode text node n
+    pub IsLineOfNode-next : (new : State) → after_line read at ≡ Ok new → node < length new.draft.nodes → IsLineOfNode text node n
     IsLineOfNode-next new ok there = record {
       at = at;
       read = read;
@@ -193,7 +270,7 @@ module _ (text : List ℕ) (left : List (List ℕ)) (n : ℕ) (read : Reading) (
     }
 
 -- nothing has been read
-pub IsReadUpTo-none : (text : List ℕ) (node : ℕ) (read : Reading) → start ≡ read → IsReadUpTo text (lines text) 1 read node
+pub IsReadUpTo-none : (text : List ℕ) (node : ℕ) (read : State) → start ≡ read → IsReadUpTo text (lines text) 1 read node
 IsReadUpTo-none text node read fresh =
     subst (λ r. IsReadUpTo text (lines text) 1 r node) fresh
     (record { before = []; lines_are = refl; line_is = omega arith; accepted = after_lines-nil start 1; not_before = omega arith })
@@ -204,7 +281,7 @@ module _ (P : Lists → Type 0) where
   kept_lists true false m e f h = h
   kept_lists false none m e f h = absurd h
 
-  accepted_by : (r : Result Reading Refusal) → IsOkAnd (whole r) P → (s : Reading) × (r ≡ Ok s) × P s.draft
+  accepted_by : (r : Result State Refusal) → IsOkAnd (whole r) P → (s : State) × (r ≡ Ok s) × P s.draft
   accepted_by (Err e) h = absurd h
   accepted_by (Ok s) h = (s, refl, kept_lists s.header (length s.draft.nodes == 0) s.draft _ _ h)
 
@@ -219,10 +296,10 @@ module _ (P : Lists → Type 0) where
       by false t = grind (arith, nat_tests)
 
   -- all its lines are accepted, and what they made is what it stands for
-  pub accepted-lines : (text : List ℕ) → IsOkAnd (parsed text) P → (s : Reading) × (after_lines start 1 (lines text) ≡ Ok s) × P s.draft
+  pub accepted-lines : (text : List ℕ) → IsOkAnd (parsed text) P → (s : State) × (after_lines start 1 (lines text) ≡ Ok s) × P s.draft
   accepted-lines text h = accepted_by (after_lines start 1 (lines text)) (subst (λ r. IsOkAnd r P) (parsed-lines text (accepted-short text h)) h)
 
-module _ (text : List ℕ) (left : List (List ℕ)) (n : ℕ) (read : Reading) (node : ℕ) (up_to : IsReadUpTo text left n read node)
+module _ (text : List ℕ) (left : List (List ℕ)) (n : ℕ) (read : State) (node : ℕ) (up_to : IsReadUpTo text left n read node)
     (accepted : IsOkAnd (parsed text) (λ m. node < length m.nodes)) where
   -- no line of an accepted text is refused
   pub none_refused : (at : List ℕ) (behind : List (List ℕ)) (number : ℕ) → left ≡ at ∷ behind → after_line read at ≡ Err number → ⊥

@@ -1,5 +1,5 @@
 -- A model's canonical text is read as the model.
-use Rattle.std.proofs.Common.{◌≡◌, ℕ, ◌+◌, ◌<◌, ◌≤◌, ◌==◌, true, false, not, List, [], ◌∷◌, ◌++◌, map, length, inl, inr, Result, Ok, Err, IfOk, codes, refl, sym, ap, subst, ◌∙◌, append_assoc, append-nil, arith}
+use Rattle.std.proofs.Common.{◌≡◌, ℕ, ◌+◌, ◌<◌, ◌≤◌, ◌==◌, true, false, not, List, [], ◌∷◌, ◌++◌, length, inl, inr, Result, Ok, Err, IfOk, codes, refl, sym, ap, subst, ◌∙◌, append_assoc, append-nil, arith}
 use Rattle.std.proofs.lemmas.Bool.{cond-false, ne_eqb, not_from_true}
 use Rattle.std.proofs.lemmas.List.Elements.{All-weaker}
 use Rattle.std.specs.List.{join_with_byte}
@@ -19,11 +19,10 @@ use Rattle.model_types.specs.declared.records.Check.{Check}
 use Rattle.model_types.specs.declared.records.Record.TheVariants as record_of
 use Rattle.model_types.specs.Lists.{Lists, no_records}
 use Rattle.model_types.specs.Rules.{IsModel, KeepsRules}
-use Rattle.model_text.specs.Canonical.{canonical, lines_of, material_words, section_words, node_words, element_words, restraint_words, case_words, force_words}
+use Rattle.model_text.specs.Canonical.{canonical, record_lines}
 use Rattle.model_text.specs.Grammar.{after_lines, parsed, whole}
-use Rattle.model_text.specs.Lines.{start, is_at_rest}
+use Rattle.model_text.specs.Lines.{State, start, is_at_rest}
 use Rattle.model_text.specs.RoundTrip.{AreCasesAtRest, CanonicalReadsBack}
-use Rattle.model_text.specs.declared.reader.Reading.{Reading}
 use Rattle.model_text.proofs.Fronts.{IsFront, whole_front, no_front, KeepsRules-fronts}
 use Rattle.model_text.proofs.LineLemmas.{after_lines-Ok, after_lines-nil, parsed-lines}
 use Rattle.model_text.proofs.PlainWords.{no_words, one_more, lines-line}
@@ -166,49 +165,49 @@ module _ (m : Lists) (k : KeepsRules m) where
   }) k
 
   module _ (at_rest : AreCasesAtRest m) (rest : List ℕ) where
-    Leads-materials : Leads (below no_records) (lines_of (map material_words m.materials) ++ rest) (below (materials_read m.materials)) rest
-    Leads-materials = Leads-kind record_of.Material material_words materials_read m.materials materials_kept (λ i x inside. refl) (λ xs x. refl) (λ xs x. refl) rest
+    Leads-materials : Leads (below no_records) (record_lines m record_of.Material m.materials ++ rest) (below (materials_read m.materials)) rest
+    Leads-materials = Leads-kind m record_of.Material materials_read m.materials materials_kept (λ i x inside. refl) (λ xs x. refl) (λ xs x. refl) rest
 
-    Leads-sections : Leads (below (materials_read m.materials)) (lines_of (map (section_words m) m.sections) ++ rest) (below (sections_read m.sections)) rest
-    Leads-sections = Leads-kind record_of.Section (section_words m) sections_read m.sections sections_kept (λ i x inside. refl) (λ xs x. refl) (λ xs x. refl) rest
+    Leads-sections : Leads (below (materials_read m.materials)) (record_lines m record_of.Section m.sections ++ rest) (below (sections_read m.sections)) rest
+    Leads-sections = Leads-kind m record_of.Section sections_read m.sections sections_kept (λ i x inside. refl) (λ xs x. refl) (λ xs x. refl) rest
 
-    Leads-nodes : Leads (below (sections_read m.sections)) (lines_of (map node_words m.nodes) ++ rest) (below (nodes_read m.nodes)) rest
-    Leads-nodes = Leads-kind record_of.Node node_words nodes_read m.nodes nodes_kept (λ i x inside. refl) (λ xs x. refl) (λ xs x. refl) rest
+    Leads-nodes : Leads (below (sections_read m.sections)) (record_lines m record_of.Node m.nodes ++ rest) (below (nodes_read m.nodes)) rest
+    Leads-nodes = Leads-kind m record_of.Node nodes_read m.nodes nodes_kept (λ i x inside. refl) (λ xs x. refl) (λ xs x. refl) rest
 
-    Leads-elements : Leads (below (nodes_read m.nodes)) (lines_of (map (element_words m) m.elements) ++ rest) (below (elements_read m.elements)) rest
-    Leads-elements = Leads-kind record_of.Element (element_words m) elements_read m.elements elements_kept (λ i x inside. refl) (λ xs x. refl) (λ xs x. refl) rest
+    Leads-elements : Leads (below (nodes_read m.nodes)) (record_lines m record_of.Element m.elements ++ rest) (below (elements_read m.elements)) rest
+    Leads-elements = Leads-kind m record_of.Element elements_read m.elements elements_kept (λ i x inside. refl) (λ xs x. refl) (λ xs x. refl) rest
 
-    Leads-restraints : Leads (below (elements_read m.elements)) (lines_of (map (restraint_words m) m.restraints) ++ rest) (below (restraints_read m.restraints)) rest
-    Leads-restraints = Leads-kind record_of.Restraint (restraint_words m) restraints_read m.restraints restraints_kept (λ i x inside. refl) (λ xs x. refl) (λ xs x. refl) rest
+    Leads-restraints : Leads (below (elements_read m.elements)) (record_lines m record_of.Restraint m.restraints ++ rest) (below (restraints_read m.restraints)) rest
+    Leads-restraints = Leads-kind m record_of.Restraint restraints_read m.restraints restraints_kept (λ i x inside. refl) (λ xs x. refl) (λ xs x. refl) rest
 
-    Leads-cases : Leads (below (restraints_read m.restraints)) (lines_of (map case_words m.cases) ++ rest) (below (cases_read m.cases)) rest
+    Leads-cases : Leads (below (restraints_read m.restraints)) (record_lines m record_of.Case m.cases ++ rest) (below (cases_read m.cases)) rest
     Leads-cases =
-        Leads-kind record_of.Case case_words cases_read m.cases cases_kept (All-weaker (λ c. is_at_rest c ≡ true) (λ c. not (is_at_rest c) ≡ false) (λ c. not_from_true (is_at_rest c)) m.cases at_rest) (λ xs x. refl) (λ xs x. refl) rest
+        Leads-kind m record_of.Case cases_read m.cases cases_kept (All-weaker (λ c. is_at_rest c ≡ true) (λ c. not (is_at_rest c) ≡ false) (λ c. not_from_true (is_at_rest c)) m.cases at_rest) (λ xs x. refl) (λ xs x. refl) rest
 
-    Leads-forces : Leads (below (cases_read m.cases)) (lines_of (map (force_words m) m.forces) ++ rest) (below (forces_read m.forces)) rest
-    Leads-forces = Leads-kind record_of.Force (force_words m) forces_read m.forces forces_kept (λ i x inside. refl) (λ xs x. refl) (λ xs x. refl) rest
+    Leads-forces : Leads (below (cases_read m.cases)) (record_lines m record_of.Force m.forces ++ rest) (below (forces_read m.forces)) rest
+    Leads-forces = Leads-kind m record_of.Force forces_read m.forces forces_kept (λ i x inside. refl) (λ xs x. refl) (λ xs x. refl) rest
 
   -- the text from each kind on
   abbrev from_forces : List ℕ
-  from_forces = lines_of (map (force_words m) m.forces) ++ []
+  from_forces = record_lines m record_of.Force m.forces ++ []
 
   abbrev from_cases : List ℕ
-  from_cases = lines_of (map case_words m.cases) ++ from_forces
+  from_cases = record_lines m record_of.Case m.cases ++ from_forces
 
   abbrev from_restraints : List ℕ
-  from_restraints = lines_of (map (restraint_words m) m.restraints) ++ from_cases
+  from_restraints = record_lines m record_of.Restraint m.restraints ++ from_cases
 
   abbrev from_elements : List ℕ
-  from_elements = lines_of (map (element_words m) m.elements) ++ from_restraints
+  from_elements = record_lines m record_of.Element m.elements ++ from_restraints
 
   abbrev from_nodes : List ℕ
-  from_nodes = lines_of (map node_words m.nodes) ++ from_elements
+  from_nodes = record_lines m record_of.Node m.nodes ++ from_elements
 
   abbrev from_sections : List ℕ
-  from_sections = lines_of (map (section_words m) m.sections) ++ from_nodes
+  from_sections = record_lines m record_of.Section m.sections ++ from_nodes
 
   abbrev from_materials : List ℕ
-  from_materials = lines_of (map material_words m.materials) ++ from_sections
+  from_materials = record_lines m record_of.Material m.materials ++ from_sections
 
   abbrev header : List (List ℕ)
   header = codes "pipeflex" ∷ codes "1" ∷ []
@@ -239,7 +238,7 @@ module _ (m : Lists) (k : KeepsRules m) where
   all_lines : AreCasesAtRest m → after_lines start 1 (lines (canonical m)) ≡ Ok (below (forces_read m.forces))
   all_lines at_rest =
       let led = (Leads-all at_rest).from 1 in
-      let end : Reading = below (forces_read m.forces) in
+      let end : State = below (forces_read m.forces) in
       led.1 ∙ after_lines-Ok end led.0 [] [] end refl ∙ after_lines-nil end (led.0 + 1)
 
   -- what has been read is the whole model

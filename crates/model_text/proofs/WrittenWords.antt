@@ -1,9 +1,10 @@
 -- The words of a canonical text are plain, and are read as what they were written for.
-use Rattle.std.proofs.Common.{◌≡◌, ◌≢◌, ℕ, suc, ◌+◌, ◌^◌, ◌<◌, ◌≤◌, ◌&&◌, nat_lt, nat_le, not, Bool, true, false, List, [], ◌∷◌, length, get_or, ℤ, pos, negsuc, neg_ℤ, ◌≤ℤ◌, int_le, unsigned_abs, codes, position, unwrap_or, Option, Some, None, Result, Ok, Err, AllPairs, nat_eq, int_eq, refl, sym, ap, ◌∙◌, arith}
+use Rattle.std.proofs.Common.{◌≡◌, ◌≢◌, ℕ, suc, ◌+◌, ◌^◌, ◌<◌, ◌≤◌, ◌&&◌, ◌==◌, nat_lt, nat_le, not, Bool, true, false, List, [], ◌∷◌, ◌++◌, length, length-append, append_assoc, get_or, ℤ, pos, negsuc, neg_ℤ, ◌≤ℤ◌, int_le, unsigned_abs, codes, position, unwrap_or, Option, Some, None, Result, Ok, Err, AllPairs, nat_eq, int_eq, refl, sym, ap, ◌∙◌, arith}
 use Rattle.std.proofs.lemmas.Bool.{and_parts, and_from, cond-true, cond-false, lt-ltb, ltb-true, false_from_ne_true}
 use Rattle.std.proofs.lemmas.Bool.Decides.{nat_tests, Decides-int_eq}
 use Rattle.std.proofs.lemmas.Fmt.{decimal_nonempty, digits_decimal, decimal_digit}
 use Rattle.std.proofs.lemmas.Int.{ints}
+use Rattle.std.proofs.lemmas.List.{get_or_at}
 use Rattle.std.proofs.lemmas.List.Elements.{All-weaker}
 use Rattle.std.proofs.lemmas.List.Sums.{AllPass-from_list_all, list_all-from_AllPass, position_or_len_is}
 use Rattle.std.proofs.lemmas.Slice.Eq.{bytes_eq-Decides}
@@ -15,10 +16,14 @@ use Rattle.std.specs.Str.{bytes_eq}
 use Rattle.text_words.specs.Names.{IsName, is_name, is_name_byte}
 use Rattle.text_words.specs.Numbers.{number_of}
 use Rattle.text_words.proofs.NumberLemmas.{own, number_of-IsNumber}
+use Rattle.model_types.specs.declared.records.Record.{Record}
+use Rattle.model_types.specs.Lists.{Lists, names_in}
 use Rattle.model_types.specs.Ranges.{Range, IsIn, IsStiffness, IsDirection, stiffness, direction_part, from_to}
-use Rattle.model_text.specs.Canonical.{stiffness_word, flag_word}
-use Rattle.model_text.specs.Fields.{◌>>=◌, name_at, is_in, in_range, number_in, stiffness_at, is_default, flag_at, is_zero, direction_of}
-use Rattle.model_text.proofs.PlainWords.{is_plain_byte, IsPlain}
+use Rattle.model_text.specs.Fields.{◌>>=◌, name_at, is_in, in_range, number_in, stiffness_at, is_default, flag_at, is_zero, direction_at}
+use Rattle.model_text.specs.Rows.{Field, own_name, name_in, within, stiffness_or_default, flag, direction, Form, first_word, row, Value, Values, width, row_width, made, number_named, read_field, read_row, record_in, name_of, stiffness_word, flag_word, field_words, row_words, form_words}
+use Rattle.model_text.specs.Words.{word}
+use Rattle.model_text.specs.declared.fields.Direction.{Direction}
+use Rattle.model_text.proofs.PlainWords.{is_plain_byte, IsPlain, ArePlain, no_words, one_more}
 
 -- a step that isn't refused hands on its value
 pub after_step : {A B : Type 0} (r : Result A ℕ) (x : A) (f : A → Result B ℕ) (y : Result B ℕ) → r ≡ Ok x → f x ≡ y → (r >>= f) ≡ y
@@ -146,10 +151,119 @@ not_all_zero x y z is = false_from_ne_true (is_zero x y z) (λ zero.
     let first = and_parts _ _ last.0 in
     is.not_zero ((Decides-int_eq x (pos 0)).0 first.0, (Decides-int_eq y (pos 0)).0 first.1, (Decides-int_eq z (pos 0)).0 last.1))
 
-pub reads_direction : (kind name node : List ℕ) (x y z : ℤ) (rest : List (List ℕ)) → IsDirection x y z
-    → direction_of (kind ∷ name ∷ node ∷ signed_decimal x ∷ signed_decimal y ∷ signed_decimal z ∷ rest) ≡ Ok (record { x = x; y = y; z = z })
-unfolding direction_of
-reads_direction kind name node x y z rest is =
-    after_step _ x _ _ (reads_number direction_part x refl is.x_part)
-    (after_step _ y _ _ (reads_number direction_part y refl is.y_part)
-    (after_step _ z _ _ (reads_number direction_part z refl is.z_part) (after_step _ tt _ _ (cond-false (is_zero x y z) (Err 7) (Ok tt) (not_all_zero x y z is)) refl)))
+-- two counts that are the same
+same_count : (a b : ℕ) → a ≡ b → not (a == b) ≡ false
+same_count a b same = grind (arith, nat_tests)
+
+-- the word behind some words
+word_at : (done : List (List ℕ)) (w : List ℕ) (rest : List (List ℕ)) (k : ℕ) → k ≡ length done → word (done ++ w ∷ rest) k ≡ w
+word_at done w rest k at = get_or_at done w rest [] k (sym at)
+
+-- and behind some more
+word_behind : (done more : List (List ℕ)) (w : List ℕ) (rest : List (List ℕ)) (k : ℕ) → k ≡ length done + length more → word (done ++ (more ++ w ∷ rest)) k ≡ w
+word_behind done more w rest k at =
+    ap (λ ws. word ws k) (sym (append_assoc done more (w ∷ rest))) ∙ word_at (done ++ more) w rest k (omega (arith, length-append done more))
+
+reads_direction : (done rest : List (List ℕ)) (d : Direction) (k : ℕ) → k ≡ length done → IsDirection d.x d.y d.z
+    → direction_at (done ++ signed_decimal d.x ∷ signed_decimal d.y ∷ signed_decimal d.z ∷ rest) k ≡ Ok d
+unfolding direction_at
+reads_direction done rest d k at is =
+    let x = signed_decimal d.x in
+    let y = signed_decimal d.y in
+    let z = signed_decimal d.z in
+    after_step _ d.x _ _ (ap (number_in direction_part) (word_at done x (y ∷ z ∷ rest) k at) ∙ reads_number direction_part d.x refl is.x_part)
+    (after_step _ d.y _ _ (ap (number_in direction_part) (word_behind done (x ∷ []) y (z ∷ rest) (k + 1) (omega arith)) ∙ reads_number direction_part d.y refl is.y_part)
+    (after_step _ d.z _ _ (ap (number_in direction_part) (word_behind done (x ∷ y ∷ []) z rest (k + 2) (omega arith)) ∙ reads_number direction_part d.z refl is.z_part)
+    (after_step _ tt _ _ (cond-false (is_zero d.x d.y d.z) (Err 7) (Ok tt) (not_all_zero d.x d.y d.z is)) refl)))
+
+-- the name at a place is plain, read as a name, and found there
+pub record IsNamed (names : List (List ℕ)) (n : ℕ) : Type 0 where
+  pub plain : IsPlain (get_or names n [])
+  pub reads : name_at (get_or names n []) ≡ Ok (get_or names n [])
+  pub found : unwrap_or (position (pointwise nat_eq (get_or names n [])) names) 4294967295 ≡ n
+
+-- what a value has to be, so that its words are read as it
+abbrev pub IsInField : Lists → (f : Field) → Value f → Type 0
+IsInField m own_name name = IsName name
+IsInField m (name_in space) n = IsNamed (names_in m space) n
+IsInField m (within range) n = IsIn range n
+IsInField m stiffness_or_default k = IsStiffness k
+IsInField m flag b = Unit {0}
+IsInField m direction d = IsDirection d.x d.y d.z
+
+abbrev pub AreInRow : Lists → (fs : List Field) → Values fs → Type 0
+AreInRow m [] vs = Unit {0}
+AreInRow m (f ∷ fs) (v, vs) = IsInField m f v × AreInRow m fs vs
+
+-- the numbers of a field have at most 18 digits
+abbrev is_short_field : Field → Bool
+is_short_field own_name = true
+is_short_field (name_in space) = true
+is_short_field (within range) = is_short range
+is_short_field stiffness_or_default = true
+is_short_field flag = true
+is_short_field direction = true
+
+abbrev pub is_short_row : List Field → Bool
+is_short_row [] = true
+is_short_row (f ∷ fs) = is_short_field f && is_short_row fs
+
+module _ (m : Lists) where
+  reads_field : (f : Field) (v : Value f) (done rest : List (List ℕ)) (k : ℕ) → k ≡ length done → is_short_field f ≡ true → IsInField m f v → read_field m f (done ++ (field_words m f v ++ rest)) k ≡ Ok v
+  reads_field own_name v done rest k at short is = ap name_at (word_at done v rest k at) ∙ reads_name v is
+  reads_field (name_in space) n done rest k at short is =
+      ap (number_named m space) (word_at done (name_of m space n) rest k at) ∙ after_step _ (name_of m space n) _ _ is.reads (ap Ok is.found)
+  reads_field (within range) v done rest k at short is = ap (number_in range) (word_at done (signed_decimal v) rest k at) ∙ reads_number range v short is
+  reads_field stiffness_or_default v done rest k at short is = ap stiffness_at (word_at done (stiffness_word v) rest k at) ∙ reads_stiffness v is
+  reads_field flag v done rest k at short is = ap flag_at (word_at done (flag_word v) rest k at) ∙ reads_flag v
+  reads_field direction v done rest k at short is = reads_direction done rest v k at is
+
+  field_plain : (f : Field) (v : Value f) (rest : List (List ℕ)) → is_short_field f ≡ true → IsInField m f v → ArePlain rest → ArePlain (field_words m f v ++ rest)
+  field_plain own_name v rest short is plain = one_more _ _ (plain_name v is) plain
+  field_plain (name_in space) n rest short is plain = one_more _ _ is.plain plain
+  field_plain (within range) v rest short is plain = one_more _ _ (plain_number_in range v short is) plain
+  field_plain stiffness_or_default v rest short is plain = one_more _ _ (plain_stiffness v is) plain
+  field_plain flag v rest short is plain = one_more _ _ (plain_flag v) plain
+  field_plain direction v rest short is plain =
+      one_more _ _ (plain_number_in direction_part v.x refl is.x_part)
+      (one_more _ _ (plain_number_in direction_part v.y refl is.y_part) (one_more _ _ (plain_number_in direction_part v.z refl is.z_part) plain))
+
+  length-field : (f : Field) (v : Value f) → length (field_words m f v) ≡ width f
+  length-field own_name v = refl
+  length-field (name_in space) v = refl
+  length-field (within range) v = refl
+  length-field stiffness_or_default v = refl
+  length-field flag v = refl
+  length-field direction v = refl
+
+  length-row : (fs : List Field) (vs : Values fs) → length (row_words m fs vs) ≡ row_width fs
+  length-row [] vs = refl
+  length-row (f ∷ fs) (v, vs) = omega (arith, length-append (field_words m f v) (row_words m fs vs), length-field f v, length-row fs vs)
+
+  row_plain : (fs : List Field) (vs : Values fs) → is_short_row fs ≡ true → AreInRow m fs vs → ArePlain (row_words m fs vs)
+  row_plain [] vs short are = no_words
+  row_plain (f ∷ fs) (v, vs) short are =
+      let both = and_parts (is_short_field f) (is_short_row fs) short in
+      field_plain f v (row_words m fs vs) both.0 are.0 (row_plain fs vs both.1 are.1)
+
+  -- the fields are read from left to right
+  reads_row : (fs : List Field) (vs : Values fs) (done : List (List ℕ)) (k : ℕ) (make : Values fs → Record) → k ≡ length done → is_short_row fs ≡ true → AreInRow m fs vs
+      → read_row m fs (done ++ row_words m fs vs) k make ≡ Ok (make vs)
+  reads_row [] vs done k make at short are = refl
+  reads_row (f ∷ fs) (v, vs) done k make at short are =
+      let both = and_parts (is_short_field f) (is_short_row fs) short in
+      let next : k + width f ≡ length (done ++ field_words m f v) = omega (arith, length-append done (field_words m f v), length-field f v) in
+      after_step (read_field m f (done ++ (field_words m f v ++ row_words m fs vs)) k) v _ _ (reads_field f v done (row_words m fs vs) k at both.0 are.0)
+      (ap (λ ws. read_row m fs ws (k + width f) (λ rest. make (v, rest))) (sym (append_assoc done (field_words m f v) (row_words m fs vs)))
+      ∙ reads_row fs vs (done ++ field_words m f v) (k + width f) (λ rest. make (v, rest)) next both.1 are.1)
+
+  -- a line in a form is read as its record
+  module _ (f : Form) (vs : Values (row f)) (short : is_short_row (row f) ≡ true) (are : AreInRow m (row f) vs) where
+    pub form_plain : ArePlain (row_words m (row f) vs)
+    form_plain = row_plain (row f) vs short are
+
+    pub form_read : record_in m f (form_words m f vs) ≡ Ok (made f vs)
+    form_read =
+        let counted : length (form_words m f vs) ≡ 1 + row_width (row f) = omega (arith, length-row (row f) vs) in
+        after_step _ tt _ _ (cond-false (not (length (form_words m f vs) == 1 + row_width (row f))) (Err 5) (Ok tt) (same_count _ _ counted))
+        (reads_row (row f) vs (first_word f ∷ []) 1 (made f) refl short are)

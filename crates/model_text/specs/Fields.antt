@@ -1,5 +1,5 @@
 -- The fields of a record: what a word gives, or the number that refuses it.
-use Rattle.std.specs.Prelude.{ℕ, ◌&&◌, Bool, ℤ, pos, int_le, List, Option, Some, None, Result, Ok, Err, if◌then◌else◌, codes}
+use Rattle.std.specs.Prelude.{ℕ, ◌+◌, ◌&&◌, Bool, ℤ, pos, int_le, List, Option, Some, None, Result, Ok, Err, if◌then◌else◌, codes}
 use Rattle.std.specs.Ordering.{int_eq}
 use Rattle.std.specs.Str.{bytes_eq}
 use Rattle.text_words.specs.Names.{is_name}
@@ -51,11 +51,11 @@ flag_at w = number_in (from_to 0 1) w >>= λ n. Ok (int_eq n (pos 1))
 abbrev pub is_zero : ℤ → ℤ → ℤ → Bool
 is_zero x y z = int_eq x (pos 0) && int_eq y (pos 0) && int_eq z (pos 0)
 
--- a direction, in the words 3 to 5: 7 where all its parts are 0
-unfoldable pub direction_of : List (List ℕ) → Result Direction ℕ
-direction_of ws = do
-  x ← number_in direction_part (word ws 3)
-  y ← number_in direction_part (word ws 4)
-  z ← number_in direction_part (word ws 5)
+-- a direction, in three words from word k on: 7 where all its parts are 0
+unfoldable pub direction_at : List (List ℕ) → ℕ → Result Direction ℕ
+direction_at ws k = do
+  x ← number_in direction_part (word ws k)
+  y ← number_in direction_part (word ws (k + 1))
+  z ← number_in direction_part (word ws (k + 2))
   _ ← refuse_if (is_zero x y z) 7
   Ok (record { x = x; y = y; z = z })

@@ -5,4 +5,5 @@ pub mod Grammar
 pub mod Lines
 pub mod Records
 pub mod RoundTrip
+pub mod Rows
 pub mod Words

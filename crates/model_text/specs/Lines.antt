@@ -13,12 +13,16 @@ use Rattle.model_types.specs.Refusals.{refusal}
 use Rattle.model_text.specs.Fields.{◌>>=◌}
 use Rattle.model_text.specs.Records.{record_of_words}
 use Rattle.model_text.specs.Words.{words, word, is_allowed}
-use Rattle.model_text.specs.declared.reader.Reading.{Reading}
 use Rattle.model_text.specs.declared.reader.TextFault.{TextFault}
 use Rattle.model_text.specs.declared.reader.TextFault.TheVariants as text_fault
 
+-- what has been read of a text: whether the header, and which records
+pub record State : Type 0 where
+  pub header : Bool
+  pub draft : Lists
+
 -- nothing has been read
-abbrev pub start : Reading
+abbrev pub start : State
 start = record { header = false; draft = no_records }
 
 -- all numbers of a case are 0
@@ -47,7 +51,7 @@ abbrev pub record_taken : Lists → List (List ℕ) → Result Lists ℕ
 record_taken m ws = record_of_words m ws >>= taken m
 
 -- a line of these words: nothing, the header, or a record below it
-abbrev pub after_words : Reading → List (List ℕ) → Result Reading ℕ
+abbrev pub after_words : State → List (List ℕ) → Result State ℕ
 after_words s ws =
     if length ws == 0 then Ok s else
     if s.header then (record_taken s.draft ws >>= λ m. Ok (record s { draft = m })) else
@@ -55,7 +59,7 @@ after_words s ws =
     Err 3
 
 -- what has been read after a line, or the number that refuses the line
-abbrev pub after_line : Reading → List ℕ → Result Reading ℕ
+abbrev pub after_line : State → List ℕ → Result State ℕ
 after_line s line = if list_all is_allowed line then after_words s (words line) else Err 2
 
 -- a line's fault, as the text's

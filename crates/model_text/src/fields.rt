@@ -78,9 +78,9 @@ pub(crate) struct Direction {
 }
 
 /// A direction, in the words 3 to 5 of a line: 7 where all its parts are 0.
-#[tactic(auto, unfolding(crate::specs::Fields::direction_of))]
+#[tactic(auto, unfolding(crate::specs::Fields::direction_at))]
 pub(crate) fn direction_of(line: &[u8]) -> Result<Direction, u8>
-    ensures value { result ≡ field.direction_of (words line.now) }
+    ensures value { result ≡ field.direction_at (words line.now) 3 }
     ensures form { IfOk result (λ d. IsDirection d.x d.y d.z) }
 {
     let x = number_in(word(line, 3), -1_000_000, 1_000_000)?;

@@ -7,5 +7,5 @@ mod records;
 mod words;
 mod writer;
 
-pub use reader::{TextFault, node_line, read};
+pub use reader::{TextFault, grammar_is_told, node_line, read};
 pub use writer::echo;

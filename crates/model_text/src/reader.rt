@@ -1,5 +1,5 @@
 //! The reader of the model text.
-ghost use Rattle.std.specs.Prelude.{◌≡◌, ◌<◌, ◌⊎◌, IsOkAnd, ◌≤◌, ℕ, length, Ok, Err, OnOk, IfOk};
+ghost use Rattle.std.specs.Prelude.{◌≡◌, ◌<◌, IsOkAnd, ◌≤◌, ℕ, length, Ok, Err, OnOk, IfOk};
 ghost use Rattle.model_types.specs.Ranges.{InForm};
 ghost use Rattle.model_types.specs.Rules.{IsModel};
 ghost use Rattle.model_text.specs.Lines as line_of;
@@ -45,6 +45,14 @@ pub(crate) struct Reading {
     draft: Draft,
 }
 
+impl std::marker::Model for Reading {
+    ghost use Rattle.model_text.specs.Lines.{State};
+
+    ghost Value = { State };
+
+    ghost view = { λ r. record { header = r.header; draft = r.draft } };
+}
+
 // No record here is a bend, so the sine of its half angle isn't looked at.
 const NO_SINE: Bounds = Bounds { lo: 0, hi: 0 };
 
@@ -56,11 +64,18 @@ pub fn read(alloc: Global, text: &[u8]) -> Result<Model, TextFault>
 
     // The model keeps the rules, and a refusal tells the first faulty line or what the whole text lacks.
     ensures rules { IfOk result IsModel }
-    ensures fault { (number line : ℕ) → result ≡ Err (TextFault.Refused number line)
-        → grammar.IsFault text.now number line ⊎ grammar.IsWholeFault text.now number line }
+    ensures stands { IfOk result (grammar.StandsFor text.now) }
+    ensures fault { (number line : ℕ) → result ≡ Err (TextFault.Refused number line) → grammar.IsRefusedAt text.now number line }
 {
     read_lines(alloc, text)
 }
+
+/// The grammar, told in words: a text is refused by a number at a line exactly where it is too long, or that line is the first at
+/// fault, or the header or a node is missing; it stands for a model exactly where none of these holds.
+pub fn grammar_is_told()
+    ensures refused { grammar.RefusalsAreReasons }
+    ensures accepted { grammar.ModelsAreAccepted }
+{}
 
 // Reads a text.
 fn read_lines(alloc: Global, text: &[u8]) -> Result<Model, TextFault>

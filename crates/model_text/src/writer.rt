@@ -2,7 +2,10 @@
 ghost use Rattle.std.specs.Prelude.{◌≡◌, ◌≤◌, [], ◌∷◌, ◌++◌, map, length, codes, Ok, IfOk, OnOk};
 ghost use Rattle.std.specs.Fmt.{signed_decimal};
 ghost use Rattle.model_types.specs.declared.ids.Space.TheVariants as space_of;
+ghost use Rattle.model_types.specs.declared.records.Record.{Record};
+ghost use Rattle.model_types.specs.declared.records.Record.TheVariants as record_of;
 ghost use Rattle.model_text.specs.Canonical as text_of;
+ghost use Rattle.model_text.specs.Rows as row_of;
 ghost use Rattle.model_text.specs.Grammar.{parsed};
 ghost use Rattle.model_text.specs.RoundTrip.{AreCasesAtRest};
 ghost use Rattle.text_words.specs.Fields.{line};
@@ -36,167 +39,125 @@ fn all_lines(alloc: Global, model: &Model) -> Result<Vec<u8>, NoMemory>
 {
     let mut out = Vec::new(alloc);
     push_line(&mut out, &[b"pipeflex", b"1"])?;
-    put_materials(&mut out, model)?;
-    put_sections(&mut out, model)?;
-    put_nodes(&mut out, model)?;
-    put_elements(&mut out, model)?;
-    put_restraints(&mut out, model)?;
-    put_cases(&mut out, model)?;
-    put_forces(&mut out, model)?;
+    put_all(&mut out, model, model.materials())?;
+    put_all(&mut out, model, model.sections())?;
+    put_all(&mut out, model, model.nodes())?;
+    put_all(&mut out, model, model.elements())?;
+    put_all(&mut out, model, model.restraints())?;
+    put_all(&mut out, model, model.cases())?;
+    put_all(&mut out, model, model.forces())?;
     Ok(out)
 }
 
-fn put_materials(out: &mut Vec<u8>, model: &Model) -> Result<(), NoMemory>
-    ensures { OnOk result (out.new.items ≡ out.old.items ++ text_of.lines_of (map text_of.material_words model.now.materials)) }
+// A record that is written as a line.
+trait Lined {
+    ghost as_record: { Self → Record };
+
+    fn put(&self, out: &mut Vec<u8>, model: &Model) -> Result<(), NoMemory>
+        ensures { OnOk result (out.new.items ≡ out.old.items ++ line (row_of.words_of model.now (as_record self.now))) };
+}
+
+// The lines of the records of a kind.
+fn put_all<T: Lined>(out: &mut Vec<u8>, model: &Model, records: &[T]) -> Result<(), NoMemory>
+    ensures { OnOk result (out.new.items ≡ out.old.items ++ text_of.record_lines model.now T.as_record records.now) }
 {
-    let materials = model.materials();
-    for r in materials {
-        put_material(out, r)?;
+    for r in records {
+        r.put(out, model)?;
     }
     Ok(())
 }
 
-fn put_sections(out: &mut Vec<u8>, model: &Model) -> Result<(), NoMemory>
-    ensures { OnOk result (out.new.items ≡ out.old.items ++ text_of.lines_of (map (text_of.section_words model.now) model.now.sections)) }
-{
-    let sections = model.sections();
-    for r in sections {
-        put_section(out, model, r)?;
+impl Lined for Material {
+    ghost as_record = { record_of.Material };
+
+    fn put(&self, out: &mut Vec<u8>, _model: &Model) -> Result<(), NoMemory> {
+        let (mut e, mut nu) = (Buffer::new(), Buffer::new());
+        let (mut alpha, mut rho) = (Buffer::new(), Buffer::new());
+        push_line(
+            out,
+            &[
+                b"material",
+                self.name.bytes(),
+                e.format(self.e).as_bytes(),
+                nu.format(self.nu).as_bytes(),
+                alpha.format(self.alpha).as_bytes(),
+                rho.format(self.rho).as_bytes(),
+            ],
+        )
     }
-    Ok(())
 }
 
-fn put_nodes(out: &mut Vec<u8>, model: &Model) -> Result<(), NoMemory>
-    ensures { OnOk result (out.new.items ≡ out.old.items ++ text_of.lines_of (map text_of.node_words model.now.nodes)) }
-{
-    let nodes = model.nodes();
-    for r in nodes {
-        put_node(out, r)?;
+impl Lined for Section {
+    ghost as_record = { record_of.Section };
+
+    fn put(&self, out: &mut Vec<u8>, model: &Model) -> Result<(), NoMemory> {
+        let (mut d, mut t) = (Buffer::new(), Buffer::new());
+        let (mut allowance, mut extra) = (Buffer::new(), Buffer::new());
+        push_line(
+            out,
+            &[
+                b"section",
+                self.name.bytes(),
+                material_name(model, self.material),
+                d.format(self.d).as_bytes(),
+                t.format(self.t).as_bytes(),
+                allowance.format(self.allowance).as_bytes(),
+                extra.format(self.extra).as_bytes(),
+            ],
+        )
     }
-    Ok(())
 }
 
-fn put_elements(out: &mut Vec<u8>, model: &Model) -> Result<(), NoMemory>
-    ensures { OnOk result (out.new.items ≡ out.old.items ++ text_of.lines_of (map (text_of.element_words model.now) model.now.elements)) }
-{
-    let elements = model.elements();
-    for r in elements {
-        put_element(out, model, r)?;
+impl Lined for Node {
+    ghost as_record = { record_of.Node };
+
+    fn put(&self, out: &mut Vec<u8>, _model: &Model) -> Result<(), NoMemory> {
+        let (mut x, mut y) = (Buffer::new(), Buffer::new());
+        let mut z = Buffer::new();
+        push_line(
+            out,
+            &[
+                b"node",
+                self.name.bytes(),
+                x.format(self.x).as_bytes(),
+                y.format(self.y).as_bytes(),
+                z.format(self.z).as_bytes(),
+            ],
+        )
     }
-    Ok(())
 }
 
-fn put_restraints(out: &mut Vec<u8>, model: &Model) -> Result<(), NoMemory>
-    ensures { OnOk result (out.new.items ≡ out.old.items ++ text_of.lines_of (map (text_of.restraint_words model.now) model.now.restraints)) }
-{
-    let restraints = model.restraints();
-    for r in restraints {
-        put_restraint(out, model, r)?;
+impl Lined for Element {
+    ghost as_record = { record_of.Element };
+
+    fn put(&self, out: &mut Vec<u8>, model: &Model) -> Result<(), NoMemory> {
+        push_line(
+            out,
+            &[
+                b"straight",
+                self.name.bytes(),
+                node_name(model, self.from),
+                node_name(model, self.to),
+                section_name(model, self.section),
+            ],
+        )
     }
-    Ok(())
 }
 
-fn put_cases(out: &mut Vec<u8>, model: &Model) -> Result<(), NoMemory>
-    ensures { OnOk result (out.new.items ≡ out.old.items ++ text_of.lines_of (map text_of.case_words model.now.cases)) }
-{
-    let cases = model.cases();
-    for r in cases {
-        put_case(out, r)?;
-    }
-    Ok(())
-}
+impl Lined for Restraint {
+    ghost as_record = { record_of.Restraint };
 
-fn put_forces(out: &mut Vec<u8>, model: &Model) -> Result<(), NoMemory>
-    ensures { OnOk result (out.new.items ≡ out.old.items ++ text_of.lines_of (map (text_of.force_words model.now) model.now.forces)) }
-{
-    let forces = model.forces();
-    for r in forces {
-        put_force(out, model, r)?;
-    }
-    Ok(())
-}
-
-fn put_material(out: &mut Vec<u8>, r: &Material) -> Result<(), NoMemory>
-    ensures { OnOk result (out.new.items ≡ out.old.items ++ line (text_of.material_words r.now)) }
-{
-    let (mut e, mut nu) = (Buffer::new(), Buffer::new());
-    let (mut alpha, mut rho) = (Buffer::new(), Buffer::new());
-    push_line(
-        out,
-        &[
-            b"material",
-            r.name.bytes(),
-            e.format(r.e).as_bytes(),
-            nu.format(r.nu).as_bytes(),
-            alpha.format(r.alpha).as_bytes(),
-            rho.format(r.rho).as_bytes(),
-        ],
-    )
-}
-
-fn put_section(out: &mut Vec<u8>, model: &Model, r: &Section) -> Result<(), NoMemory>
-    ensures { OnOk result (out.new.items ≡ out.old.items ++ line (text_of.section_words model.now r.now)) }
-{
-    let (mut d, mut t) = (Buffer::new(), Buffer::new());
-    let (mut allowance, mut extra) = (Buffer::new(), Buffer::new());
-    push_line(
-        out,
-        &[
-            b"section",
-            r.name.bytes(),
-            material_name(model, r.material),
-            d.format(r.d).as_bytes(),
-            t.format(r.t).as_bytes(),
-            allowance.format(r.allowance).as_bytes(),
-            extra.format(r.extra).as_bytes(),
-        ],
-    )
-}
-
-fn put_node(out: &mut Vec<u8>, r: &Node) -> Result<(), NoMemory>
-    ensures { OnOk result (out.new.items ≡ out.old.items ++ line (text_of.node_words r.now)) }
-{
-    let (mut x, mut y) = (Buffer::new(), Buffer::new());
-    let mut z = Buffer::new();
-    push_line(
-        out,
-        &[
-            b"node",
-            r.name.bytes(),
-            x.format(r.x).as_bytes(),
-            y.format(r.y).as_bytes(),
-            z.format(r.z).as_bytes(),
-        ],
-    )
-}
-
-fn put_element(out: &mut Vec<u8>, model: &Model, r: &Element) -> Result<(), NoMemory>
-    ensures { OnOk result (out.new.items ≡ out.old.items ++ line (text_of.element_words model.now r.now)) }
-{
-    push_line(
-        out,
-        &[
-            b"straight",
-            r.name.bytes(),
-            node_name(model, r.from),
-            node_name(model, r.to),
-            section_name(model, r.section),
-        ],
-    )
-}
-
-fn put_restraint(out: &mut Vec<u8>, model: &Model, r: &Restraint) -> Result<(), NoMemory>
-    ensures { OnOk result (out.new.items ≡ out.old.items ++ line (text_of.restraint_words model.now r.now)) }
-{
-    let name = r.name.bytes();
-    let node = node_name(model, r.node);
-    match r.kind {
-        RestraintKind::Anchor { kt, kr } => put_anchor(out, name, node, kt, kr),
-        RestraintKind::Linear { dx, dy, dz, k } => {
-            put_along(out, b"linear", name, node, dx, dy, dz, k)
-        }
-        RestraintKind::Twist { dx, dy, dz, k } => {
-            put_along(out, b"twist", name, node, dx, dy, dz, k)
+    fn put(&self, out: &mut Vec<u8>, model: &Model) -> Result<(), NoMemory> {
+        let name = self.name.bytes();
+        let node = node_name(model, self.node);
+        match self.kind {
+            RestraintKind::Anchor { kt, kr } => put_anchor(out, name, node, kt, kr),
+            RestraintKind::Linear { dx, dy, dz, k } => {
+                put_along(out, b"linear", name, node, dx, dy, dz, k)
+            }
+            RestraintKind::Twist { dx, dy, dz, k } => {
+                put_along(out, b"twist", name, node, dx, dy, dz, k)
+            }
         }
     }
 }
@@ -208,7 +169,7 @@ fn put_anchor(
     kt: Option<i64>,
     kr: Option<i64>,
 ) -> Result<(), NoMemory>
-    ensures { OnOk result (out.new.items ≡ out.old.items ++ line (codes "anchor" ∷ name.now ∷ node.now ∷ text_of.stiffness_word kt ∷ text_of.stiffness_word kr ∷ [])) }
+    ensures { OnOk result (out.new.items ≡ out.old.items ++ line (codes "anchor" ∷ name.now ∷ node.now ∷ row_of.stiffness_word kt ∷ row_of.stiffness_word kr ∷ [])) }
 {
     let (mut first, mut second) = (Buffer::new(), Buffer::new());
     let kt = stiffness(&mut first, kt);
@@ -227,7 +188,7 @@ fn put_along<'a>(
     dz: i64,
     k: Option<i64>,
 ) -> Result<(), NoMemory>
-    ensures { OnOk result (out.new.items ≡ out.old.items ++ line (kind.now ∷ name.now ∷ node.now ∷ signed_decimal dx ∷ signed_decimal dy ∷ signed_decimal dz ∷ text_of.stiffness_word k ∷ [])) }
+    ensures { OnOk result (out.new.items ≡ out.old.items ++ line (kind.now ∷ name.now ∷ node.now ∷ signed_decimal dx ∷ signed_decimal dy ∷ signed_decimal dz ∷ row_of.stiffness_word k ∷ [])) }
 {
     let (mut x, mut y) = (Buffer::new(), Buffer::new());
     let (mut z, mut last) = (Buffer::new(), Buffer::new());
@@ -240,7 +201,7 @@ fn put_along<'a>(
 
 // A stiffness, or `-` for the default.
 fn stiffness(buffer: &mut Buffer, k: Option<i64>) -> &[u8]
-    ensures { result.now ≡ text_of.stiffness_word k }
+    ensures { result.now ≡ row_of.stiffness_word k }
 {
     match k {
         Some(k) => buffer.format(k).as_bytes(),
@@ -248,52 +209,56 @@ fn stiffness(buffer: &mut Buffer, k: Option<i64>) -> &[u8]
     }
 }
 
-fn put_case(out: &mut Vec<u8>, r: &Case) -> Result<(), NoMemory>
-    ensures { OnOk result (out.new.items ≡ out.old.items ++ line (text_of.case_words r.now)) }
-{
-    let (mut gx, mut gy) = (Buffer::new(), Buffer::new());
-    let (mut gz, mut dt) = (Buffer::new(), Buffer::new());
-    let mut p = Buffer::new();
-    let (gx, gy) = (gx.format(r.gx).as_bytes(), gy.format(r.gy).as_bytes());
-    let (gz, dt) = (gz.format(r.gz).as_bytes(), dt.format(r.dt).as_bytes());
-    let p = p.format(r.p).as_bytes();
-    let name = r.name.bytes();
-    let hangers = hangers(r);
-    push_line(out, &[b"case", name, gx, gy, gz, hangers, dt, p])
+impl Lined for Case {
+    ghost as_record = { record_of.Case };
+
+    fn put(&self, out: &mut Vec<u8>, _model: &Model) -> Result<(), NoMemory> {
+        let (mut gx, mut gy) = (Buffer::new(), Buffer::new());
+        let (mut gz, mut dt) = (Buffer::new(), Buffer::new());
+        let mut p = Buffer::new();
+        let (gx, gy) = (gx.format(self.gx).as_bytes(), gy.format(self.gy).as_bytes());
+        let (gz, dt) = (gz.format(self.gz).as_bytes(), dt.format(self.dt).as_bytes());
+        let p = p.format(self.p).as_bytes();
+        let name = self.name.bytes();
+        let hangers = hangers(self);
+        push_line(out, &[b"case", name, gx, gy, gz, hangers, dt, p])
+    }
 }
 
 // 1 where hanger loads act, and else 0.
 fn hangers(case: &Case) -> &[u8]
-    ensures { result.now ≡ text_of.flag_word case.now.hangers }
+    ensures { result.now ≡ row_of.flag_word case.now.hangers }
 {
     if case.hangers { b"1" } else { b"0" }
 }
 
-fn put_force(out: &mut Vec<u8>, model: &Model, r: &Force) -> Result<(), NoMemory>
-    ensures { OnOk result (out.new.items ≡ out.old.items ++ line (text_of.force_words model.now r.now)) }
-{
-    let (mut fx, mut fy) = (Buffer::new(), Buffer::new());
-    let (mut fz, mut mx) = (Buffer::new(), Buffer::new());
-    let (mut my, mut mz) = (Buffer::new(), Buffer::new());
-    push_line(
-        out,
-        &[
-            b"force",
-            case_name(model, r.case),
-            node_name(model, r.node),
-            fx.format(r.fx).as_bytes(),
-            fy.format(r.fy).as_bytes(),
-            fz.format(r.fz).as_bytes(),
-            mx.format(r.mx).as_bytes(),
-            my.format(r.my).as_bytes(),
-            mz.format(r.mz).as_bytes(),
-        ],
-    )
+impl Lined for Force {
+    ghost as_record = { record_of.Force };
+
+    fn put(&self, out: &mut Vec<u8>, model: &Model) -> Result<(), NoMemory> {
+        let (mut fx, mut fy) = (Buffer::new(), Buffer::new());
+        let (mut fz, mut mx) = (Buffer::new(), Buffer::new());
+        let (mut my, mut mz) = (Buffer::new(), Buffer::new());
+        push_line(
+            out,
+            &[
+                b"force",
+                case_name(model, self.case),
+                node_name(model, self.node),
+                fx.format(self.fx).as_bytes(),
+                fy.format(self.fy).as_bytes(),
+                fz.format(self.fz).as_bytes(),
+                mx.format(self.mx).as_bytes(),
+                my.format(self.my).as_bytes(),
+                mz.format(self.mz).as_bytes(),
+            ],
+        )
+    }
 }
 
 // The name of a material, or nothing where there is none of that number.
 fn material_name(model: &Model, material: MaterialId) -> &[u8]
-    ensures { result.now ≡ text_of.name_of model.now space_of.Material material.0 }
+    ensures { result.now ≡ row_of.name_of model.now space_of.Material material.0 }
 {
     match model.materials().get(material.0 as usize) {
         Some(r) => r.name.bytes(),
@@ -303,7 +268,7 @@ fn material_name(model: &Model, material: MaterialId) -> &[u8]
 
 // The name of a section, or nothing where there is none of that number.
 fn section_name(model: &Model, section: SectionId) -> &[u8]
-    ensures { result.now ≡ text_of.name_of model.now space_of.Section section.0 }
+    ensures { result.now ≡ row_of.name_of model.now space_of.Section section.0 }
 {
     match model.sections().get(section.0 as usize) {
         Some(r) => r.name.bytes(),
@@ -313,7 +278,7 @@ fn section_name(model: &Model, section: SectionId) -> &[u8]
 
 // The name of a node, or nothing where there is none of that number.
 fn node_name(model: &Model, node: NodeId) -> &[u8]
-    ensures { result.now ≡ text_of.name_of model.now space_of.Node node.0 }
+    ensures { result.now ≡ row_of.name_of model.now space_of.Node node.0 }
 {
     match model.nodes().get(node.0 as usize) {
         Some(r) => r.name.bytes(),
@@ -323,7 +288,7 @@ fn node_name(model: &Model, node: NodeId) -> &[u8]
 
 // The name of a case, or nothing where there is none of that number.
 fn case_name(model: &Model, case: CaseId) -> &[u8]
-    ensures { result.now ≡ text_of.name_of model.now space_of.Case case.0 }
+    ensures { result.now ≡ row_of.name_of model.now space_of.Case case.0 }
 {
     match model.cases().get(case.0 as usize) {
         Some(r) => r.name.bytes(),

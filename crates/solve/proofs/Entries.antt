@@ -8,7 +8,8 @@ use Rattle.factor_data.specs.Order.{IsSpread}
 use Rattle.factor_data.specs.Columns.{Columns, IsFactor, column_rows, column_part, column_entry}
 use Rattle.factor_data.proofs.ColumnLemmas.{part-listed, part-missing}
 use Rattle.factor_data.proofs.OrderLemmas.{contained_or_not, spread-rising}
-use Rattle.solve.specs.Substitution.{at, absolute}
+use Rattle.solve.specs.Substitution.{at}
+use Rattle.int_laws.specs.Matrices.{absolute}
 use Rattle.solve.specs.Numerators.{past, taken, taken_size, gathered, gathered_size}
 use Rattle.solve.proofs.ColumnsTaken.{past-none}
 

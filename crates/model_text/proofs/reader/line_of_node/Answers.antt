@@ -1,4 +1,4 @@
-use Rattle.std.proofs.Common.{arith, Err, option_copied, sym, ap, ◌∙◌}
+use Rattle.std.proofs.Common.{arith, length, Err, option_copied, sym, ap, ◌∙◌}
 use Rattle.std.proofs.lemmas.List.{length-map}
 use Rattle.text_words.specs.Fields.{lines_left}
 use Rattle.model_text.proofs.LineLemmas.{IsReadUpTo-none, IsReadUpTo-more, IsLineOfNode-next, none_refused, some_left, line_small}
@@ -21,13 +21,13 @@ pub loop-rest-preserved : goal.loop-rest-preserved
 loop-rest-preserved c =
     let behind = lines_left (option_copied c.cut_line.result.1) in
     let next = ap (λ o. lines_left (option_copied o)) c.in-Some.is ∙ c.cut_line.ensures.lines in
-    IsReadUpTo-more c.args.text.now _ c.loop-rest.line c.loop-rest.reading c.args.node.0 c.loop-rest.invariant c.cut_line.result.0.now behind next c.take_line.new.reading c.in-Ok.ensures.ok (omega (arith, length-map c.take_line.new.reading.draft.nodes (λ r. r.name)))
+    IsReadUpTo-more c.args.text.now _ c.loop-rest.line c.loop-rest.reading c.args.node.0 c.loop-rest.invariant c.cut_line.result.0.now behind next c.take_line.new.reading c.in-Ok.ensures.ok (omega (arith, ap (λ s. length s.draft.nodes) c.reading.view_is, length-map c.reading.inside.draft.nodes (λ r. r.name)))
 
 pub returns-then-count-node : goal.returns-then-count-node
 returns-then-count-node c =
     let behind = lines_left (option_copied c.cut_line.result.1) in
     let next = ap (λ o. lines_left (option_copied o)) c.in-Some.is ∙ c.cut_line.ensures.lines in
-    IsLineOfNode-next c.args.text.now _ c.loop-rest.line c.loop-rest.reading c.args.node.0 c.loop-rest.invariant c.cut_line.result.0.now behind next c.take_line.new.reading c.in-Ok.ensures.ok (omega (arith, length-map c.take_line.new.reading.draft.nodes (λ r. r.name)))
+    IsLineOfNode-next c.args.text.now _ c.loop-rest.line c.loop-rest.reading c.args.node.0 c.loop-rest.invariant c.cut_line.result.0.now behind next c.take_line.new.reading c.in-Ok.ensures.ok (omega (arith, ap (λ s. length s.draft.nodes) c.reading.view_is, length-map c.reading.inside.draft.nodes (λ r. r.name)))
 
 pub unreachable-requires-2 : goal.unreachable-requires-2
 unreachable-requires-2 c = some_left c.args.text.now _ c.loop-rest.line c.loop-rest.reading c.args.node.0 c.loop-rest.invariant c.requires.accepted (ap (λ o. lines_left (option_copied o)) c.in_default.is)

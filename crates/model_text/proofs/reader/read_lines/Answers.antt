@@ -1,8 +1,7 @@
 use Rattle.std.proofs.Common.{◌≡◌, false, Ok, Err, IfOk, sym, ap, subst, ◌∙◌}
 use Rattle.text_words.specs.Fields.{lines}
 use Rattle.model_text.specs.Grammar.{after_lines, whole, parsed}
-use Rattle.model_text.specs.Lines.{start}
-use Rattle.model_text.specs.declared.reader.Reading.{Reading}
+use Rattle.model_text.specs.Lines.{State, start}
 use Rattle.model_text.specs.declared.reader.TextFault.TheVariants as text_fault
 use Rattle.model_text.proofs.LineLemmas.{parsed-lines, parsed-long}
 use Rattle.model_text.proofs.reader.read_lines.Goals as goal
@@ -15,7 +14,7 @@ returns-then-text-gt-LONGEST_TEXT-clause-refused c = λ number line e.
 
 pub returns-in-Ok-clause-model : goal.returns-in-Ok-clause-model
 returns-in-Ok-clause-model c =
-    let from : Reading = record { header = false; draft = c.in_ok-draft.draft } in
+    let from : State = record { header = false; draft = c.in_ok-draft.draft } in
     let begins : from ≡ start = ap (λ d. record { header = false; draft = d }) c.in_ok-draft.ensures in
     let all : parsed c.args.text.now ≡ whole (Ok c.take_lines.new.reading) =
     parsed-lines c.args.text.now c.if-text-gt-LONGEST_TEXT.false ∙ ap (λ s. whole (after_lines s 1 (lines c.args.text.now))) (sym begins) ∙ ap whole c.in-Ok.ensures.ok in
@@ -23,14 +22,14 @@ returns-in-Ok-clause-model c =
 
 pub returns-in-Ok-clause-refused : goal.returns-in-Ok-clause-refused
 returns-in-Ok-clause-refused c = λ number line e.
-    let from : Reading = record { header = false; draft = c.in_ok-draft.draft } in
+    let from : State = record { header = false; draft = c.in_ok-draft.draft } in
     let begins : from ≡ start = ap (λ d. record { header = false; draft = d }) c.in_ok-draft.ensures in
     parsed-lines c.args.text.now c.if-text-gt-LONGEST_TEXT.false ∙ ap (λ s. whole (after_lines s 1 (lines c.args.text.now))) (sym begins) ∙ ap whole c.in-Ok.ensures.ok
     ∙ c.whole.ensures.refused number line e
 
 pub returns-in-Err-clause-refused : goal.returns-in-Err-clause-refused
 returns-in-Err-clause-refused c = λ number line e.
-    let from : Reading = record { header = false; draft = c.in_ok-draft.draft } in
+    let from : State = record { header = false; draft = c.in_ok-draft.draft } in
     let begins : from ≡ start = ap (λ d. record { header = false; draft = d }) c.in_ok-draft.ensures in
     let fault : c.in-Err.fault ≡ text_fault.Refused number line = cc in
     parsed-lines c.args.text.now c.if-text-gt-LONGEST_TEXT.false ∙ ap (λ s. whole (after_lines s 1 (lines c.args.text.now))) (sym begins)

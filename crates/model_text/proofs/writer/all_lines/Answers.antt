@@ -1,6 +1,8 @@
-use Rattle.std.proofs.Common.{[], ◌∷◌, ◌++◌, codes, map, ap, ◌∙◌}
+use Rattle.std.proofs.Common.{[], ◌∷◌, ◌++◌, codes, ap, ◌∙◌}
 use Rattle.text_words.specs.Fields.{line}
-use Rattle.model_text.specs.Canonical.{canonical, lines_of, material_words, section_words, node_words, element_words, restraint_words, case_words, force_words}
+use Rattle.model_types.specs.declared.records.Record.TheVariants as record_of
+use Rattle.model_text.specs.Canonical.{canonical}
+use Rattle.model_text.proofs.Appended.{append_kind}
 use Rattle.model_text.proofs.writer.all_lines.Goals as goal
 
 -- one kind after the other
@@ -9,10 +11,10 @@ unfolding canonical
 returns c =
     let m = c.args.model.now in
     let header = c.in_ok-push_line.ensures.written ∙ ap (λ l. l ++ line (codes "pipeflex" ∷ codes "1" ∷ [])) c.new-out.ensures.items in
-    let materials = c.in_ok-put_materials.ensures ∙ ap (λ l. l ++ lines_of (map material_words m.materials)) header in
-    let sections = c.in_ok-put_sections.ensures ∙ ap (λ l. l ++ lines_of (map (section_words m) m.sections)) materials in
-    let nodes = c.in_ok-put_nodes.ensures ∙ ap (λ l. l ++ lines_of (map node_words m.nodes)) sections in
-    let elements = c.in_ok-put_elements.ensures ∙ ap (λ l. l ++ lines_of (map (element_words m) m.elements)) nodes in
-    let restraints = c.in_ok-put_restraints.ensures ∙ ap (λ l. l ++ lines_of (map (restraint_words m) m.restraints)) elements in
-    let cases = c.in_ok-put_cases.ensures ∙ ap (λ l. l ++ lines_of (map case_words m.cases)) restraints in
-    c.in_ok-put_forces.ensures ∙ ap (λ l. l ++ lines_of (map (force_words m) m.forces)) cases
+    let materials = append_kind m record_of.Material m.materials c.materials.ensures.records header c.in_ok-put_all.ensures in
+    let sections = append_kind m record_of.Section m.sections c.sections.ensures.records materials c.in_ok-put_all-2.ensures in
+    let nodes = append_kind m record_of.Node m.nodes c.nodes.ensures.records sections c.in_ok-put_all-3.ensures in
+    let elements = append_kind m record_of.Element m.elements c.elements.ensures.records nodes c.in_ok-put_all-4.ensures in
+    let restraints = append_kind m record_of.Restraint m.restraints c.restraints.ensures.records elements c.in_ok-put_all-5.ensures in
+    let cases = append_kind m record_of.Case m.cases c.cases.ensures.records restraints c.in_ok-put_all-6.ensures in
+    append_kind m record_of.Force m.forces c.forces.ensures.records cases c.in_ok-put_all-7.ensures

@@ -4,7 +4,7 @@ use Rattle.std.proofs.lemmas.Int.{ints}
 use Rattle.int_laws.proofs.Sums.{int_sums}
 use Rattle.flex_num.specs.Division.{IsFloor}
 use Rattle.flex_interval.specs.Ends.{Ends, IsInterval}
-use Rattle.assembly.proofs.entries.radius.Goals as goal
+use Rattle.flex_interval.proofs.parts.radius.Goals as goal
 
 -- the middle is not above the upper end
 up_to_end : (e : Ends) (v : ℤ) → IsInterval e → IsFloor (e.lo +ℤ e.hi) (pos 2) v → pos 0 ≤ℤ (e.hi -ℤ v)

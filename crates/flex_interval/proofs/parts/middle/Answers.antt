@@ -3,7 +3,7 @@ use Rattle.std.specs.Int.{w128}
 use Rattle.std.proofs.lemmas.Int.{ints}
 use Rattle.flex_num.specs.Division.{IsFloor, floor_of}
 use Rattle.flex_interval.specs.Ends.{Ends}
-use Rattle.assembly.proofs.entries.middle.Goals as goal
+use Rattle.flex_interval.proofs.parts.middle.Goals as goal
 
 pub overflow_add-e-inside : goal.overflow_add-e-inside
 overflow_add-e-inside c = omega (arith, ints, c.e.invariant)

@@ -6,22 +6,22 @@ use Rattle.int_laws.specs.Sums.{sum_below}
 use Rattle.int_laws.proofs.Sums.{int_sums}
 use Rattle.int_laws.proofs.Products.{add-mul, mul-add, neg-mul, mul-neg, zero-mul, mul_comm, mul_assoc, mul_swap, square_nonnegative, mul_nonnegative}
 use Rattle.int_laws.proofs.SumLaws.{sum_below-same, sum_below-le, sum_below-zero, sum_below-one, sum_below-add, sum_below-mul, sum_below-neg, sum_below-mul_right, sum_below-swap, sum_below-product}
-use Rattle.certificate.specs.QuadraticForm.{Vector, Matrix, absolute, scalar_matrix, gram, quadratic_form, squared_norm, IsSymmetric}
+use Rattle.int_laws.specs.Matrices.{Vector, Entries, absolute, scalar_matrix, gram, quadratic_form, squared_norm, IsSymmetric}
 
 -- a double sum of the same terms
-pub double-same : (n : ℕ) (f g : Matrix) → ((i j : ℕ) → i < n → j < n → f i j ≡ g i j) →
+pub double-same : (n : ℕ) (f g : Entries) → ((i j : ℕ) → i < n → j < n → f i j ≡ g i j) →
     sum_below n (λ i. sum_below n (λ j. f i j)) ≡ sum_below n (λ i. sum_below n (λ j. g i j))
 double-same n f g same =
     sum_below-same n (λ i. sum_below n (λ j. f i j)) (λ i. sum_below n (λ j. g i j))
     (λ i p. sum_below-same n (f i) (g i) (λ j q. same i j p q))
 
-pub double-le : (n : ℕ) (f g : Matrix) → ((i j : ℕ) → i < n → j < n → f i j ≤ℤ g i j) →
+pub double-le : (n : ℕ) (f g : Entries) → ((i j : ℕ) → i < n → j < n → f i j ≤ℤ g i j) →
     sum_below n (λ i. sum_below n (λ j. f i j)) ≤ℤ sum_below n (λ i. sum_below n (λ j. g i j))
 double-le n f g below =
     sum_below-le n (λ i. sum_below n (λ j. f i j)) (λ i. sum_below n (λ j. g i j))
     (λ i p. sum_below-le n (f i) (g i) (λ j q. below i j p q))
 
-pub double-add : (n : ℕ) (f g : Matrix) →
+pub double-add : (n : ℕ) (f g : Entries) →
     sum_below n (λ i. sum_below n (λ j. f i j +ℤ g i j))
     ≡ sum_below n (λ i. sum_below n (λ j. f i j)) +ℤ sum_below n (λ i. sum_below n (λ j. g i j))
 double-add n f g =
@@ -29,33 +29,33 @@ double-add n f g =
     (λ i _. sum_below-add n (f i) (g i))
     ∙ sum_below-add n (λ i. sum_below n (f i)) (λ i. sum_below n (g i))
 
-pub double-mul : (n : ℕ) (c : ℤ) (f : Matrix) →
+pub double-mul : (n : ℕ) (c : ℤ) (f : Entries) →
     sum_below n (λ i. sum_below n (λ j. c *ℤ f i j)) ≡ c *ℤ sum_below n (λ i. sum_below n (λ j. f i j))
 double-mul n c f =
     sum_below-same n (λ i. sum_below n (λ j. c *ℤ f i j)) (λ i. c *ℤ sum_below n (f i)) (λ i _. sum_below-mul n c (f i))
     ∙ sum_below-mul n c (λ i. sum_below n (f i))
 
-double-neg : (n : ℕ) (f : Matrix) →
+double-neg : (n : ℕ) (f : Entries) →
     sum_below n (λ i. sum_below n (λ j. neg_ℤ (f i j))) ≡ neg_ℤ (sum_below n (λ i. sum_below n (λ j. f i j)))
 double-neg n f =
     sum_below-same n (λ i. sum_below n (λ j. neg_ℤ (f i j))) (λ i. neg_ℤ (sum_below n (f i))) (λ i _. sum_below-neg n (f i))
     ∙ sum_below-neg n (λ i. sum_below n (f i))
 
 -- ---- the form is linear in the matrix
-pub form-same : (n : ℕ) (m m' : Matrix) (x : Vector) → ((i j : ℕ) → i < n → j < n → m i j ≡ m' i j) →
+pub form-same : (n : ℕ) (m m' : Entries) (x : Vector) → ((i j : ℕ) → i < n → j < n → m i j ≡ m' i j) →
     quadratic_form n m x ≡ quadratic_form n m' x
 form-same n m m' x same =
     double-same n (λ i j. m i j *ℤ (x i *ℤ x j)) (λ i j. m' i j *ℤ (x i *ℤ x j))
     (λ i j p q. ap (λ (z : ℤ). z *ℤ (x i *ℤ x j)) (same i j p q))
 
-pub form-add : (n : ℕ) (m m' : Matrix) (x : Vector) →
+pub form-add : (n : ℕ) (m m' : Entries) (x : Vector) →
     quadratic_form n (λ i j. m i j +ℤ m' i j) x ≡ quadratic_form n m x +ℤ quadratic_form n m' x
 form-add n m m' x =
     double-same n (λ i j. (m i j +ℤ m' i j) *ℤ (x i *ℤ x j)) (λ i j. (m i j *ℤ (x i *ℤ x j)) +ℤ (m' i j *ℤ (x i *ℤ x j)))
     (λ i j _ _. add-mul (m i j) (m' i j) (x i *ℤ x j))
     ∙ double-add n (λ i j. m i j *ℤ (x i *ℤ x j)) (λ i j. m' i j *ℤ (x i *ℤ x j))
 
-pub form-mul : (n : ℕ) (c : ℤ) (m : Matrix) (x : Vector) →
+pub form-mul : (n : ℕ) (c : ℤ) (m : Entries) (x : Vector) →
     quadratic_form n (λ i j. c *ℤ m i j) x ≡ c *ℤ quadratic_form n m x
 form-mul n c m x =
     double-same n (λ i j. (c *ℤ m i j) *ℤ (x i *ℤ x j)) (λ i j. c *ℤ (m i j *ℤ (x i *ℤ x j)))
@@ -98,13 +98,13 @@ form-none n x =
     sum_below-zero n (λ i. sum_below n (λ j. pos 0 *ℤ (x i *ℤ x j)))
     (λ i _. sum_below-zero n (λ j. pos 0 *ℤ (x i *ℤ x j)) (λ j _. zero-mul (x i *ℤ x j)))
 
-pub form-gram : (n w : ℕ) (g : Matrix) (x : Vector) → pos 0 ≤ℤ quadratic_form n (gram w g) x
+pub form-gram : (n w : ℕ) (g : Entries) (x : Vector) → pos 0 ≤ℤ quadratic_form n (gram w g) x
 form-gram n zero g x = let none = form-none n x in omega (arith, int_sums, none)
 form-gram n (suc w) g x =
     let parts = form-add n (gram w g) (λ i j. g i w *ℤ g j w) x in
     omega (arith, int_sums, parts, form-gram n w g x, form-column n (λ i. g i w) x, square_nonnegative (sum_below n (λ i. g i w *ℤ x i)))
 
-pub gram-symmetric : (w : ℕ) (g : Matrix) (i j : ℕ) → gram w g i j ≡ gram w g j i
+pub gram-symmetric : (w : ℕ) (g : Entries) (i j : ℕ) → gram w g i j ≡ gram w g j i
 gram-symmetric w g i j =
     sum_below-same w (λ k. g i k *ℤ g j k) (λ k. g j k *ℤ g i k) (λ k _. mul_comm (g i k) (g j k))
 
@@ -127,14 +127,14 @@ pair_bound (negsuc e) x y =
     omega (arith, int_sums, square, out, split, mul-neg (pos (suc e)) ((x *ℤ y) +ℤ (x *ℤ y)), neg-mul (pos (suc e)) (x *ℤ y), mul-add (pos (suc e)) (x *ℤ x) (y *ℤ y), mul-add (pos (suc e)) (x *ℤ y) (x *ℤ y))
 
 -- sum over i of x_i^2 times the sum over j of |e_ij|
-abbrev pub row_weighted : ℕ → Matrix → Vector → ℤ
+abbrev pub row_weighted : ℕ → Entries → Vector → ℤ
 row_weighted n e x = sum_below n (λ i. sum_below n (λ j. absolute (e i j)) *ℤ (x i *ℤ x i))
 
-pub form-symmetric : (n : ℕ) (e : Matrix) (x : Vector) → IsSymmetric n e → neg_ℤ (row_weighted n e x) ≤ℤ quadratic_form n e x
+pub form-symmetric : (n : ℕ) (e : Entries) (x : Vector) → IsSymmetric n e → neg_ℤ (row_weighted n e x) ≤ℤ quadratic_form n e x
 form-symmetric n e x symmetric =
-    let own : Matrix = λ i j. absolute (e i j) *ℤ (x i *ℤ x i) in
-    let other : Matrix = λ i j. absolute (e i j) *ℤ (x j *ℤ x j) in
-    let term : Matrix = λ i j. e i j *ℤ (x i *ℤ x j) in
+    let own : Entries = λ i j. absolute (e i j) *ℤ (x i *ℤ x i) in
+    let other : Entries = λ i j. absolute (e i j) *ℤ (x j *ℤ x j) in
+    let term : Entries = λ i j. e i j *ℤ (x i *ℤ x j) in
     let rows = sum_below-same n (λ i. sum_below n (own i)) (λ i. sum_below n (λ j. absolute (e i j)) *ℤ (x i *ℤ x i))
     (λ i _. sum_below-mul_right n (x i *ℤ x i) (λ j. absolute (e i j))) in
     let columns = double-same n other (λ i j. own j i)

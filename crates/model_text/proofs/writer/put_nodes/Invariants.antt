@@ -1,6 +1,0 @@
-use Rattle.std.proofs.Common.{◌≡◌, ◌++◌, map, take}
-use Rattle.model_text.specs.Canonical.{lines_of, node_words}
-use Rattle.model_text.proofs.writer.put_nodes.Given as goal
-
-abbrev pub invariant-loop-r : goal.invariant-loop-r
-invariant-loop-r l = l.out.items ≡ l.initial.out.items ++ lines_of (map node_words (take l.r-index l.nodes))

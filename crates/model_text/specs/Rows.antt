@@ -1,0 +1,176 @@
+-- The table of records: the row of fields of each form of record, and how such a row is read and written.
+use Rattle.std.specs.Prelude.{ℕ, ◌+◌, ◌==◌, not, Bool, ℤ, List, [], ◌∷◌, ◌++◌, length, Option, Some, None, Result, Ok, unwrap_or, if◌then◌else◌, codes}
+use Rattle.std.specs.Fmt.{signed_decimal}
+use Rattle.std.specs.List.{slice_index_or}
+use Rattle.model_types.specs.declared.ids.Space.{Space}
+use Rattle.model_types.specs.declared.ids.Space.TheVariants as space_of
+use Rattle.model_types.specs.declared.records.Shape.TheVariants.{Straight}
+use Rattle.model_types.specs.declared.records.RestraintKind.{RestraintKind}
+use Rattle.model_types.specs.declared.records.RestraintKind.TheVariants.{Anchor, Linear, Twist}
+use Rattle.model_types.specs.declared.records.Record.{Record}
+use Rattle.model_types.specs.declared.records.Record.TheVariants as record_of
+use Rattle.model_types.specs.Lists.{Lists, names_in, number_of}
+use Rattle.model_types.specs.Ranges.{Range, modulus, poisson_ratio, expansion, density, diameter, wall, wall_allowance, extra_weight, coordinate, acceleration, temperature_change, pressure, load}
+use Rattle.model_text.specs.declared.fields.Direction.{Direction}
+use Rattle.model_text.specs.Fields.{◌>>=◌, refuse_if, name_at, number_in, stiffness_at, flag_at, direction_at}
+use Rattle.model_text.specs.Words.{word}
+
+-- what a field of a row holds: the record's own name, the name of another record, a number in a range, a stiffness or `-`, 0 or 1, or
+-- the three parts of a direction
+pub data Field : Type 0 where
+  own_name : Field
+  name_in : Space → Field
+  within : Range → Field
+  stiffness_or_default : Field
+  flag : Field
+  direction : Field
+
+-- the forms of records, each with its first word
+pub data Form : Type 0 where
+  a_material : Form
+  a_section : Form
+  a_node : Form
+  a_straight : Form
+  an_anchor : Form
+  a_linear : Form
+  a_twist : Form
+  a_case : Form
+  a_force : Form
+
+abbrev pub first_word : Form → List ℕ
+first_word a_material = codes "material"
+first_word a_section = codes "section"
+first_word a_node = codes "node"
+first_word a_straight = codes "straight"
+first_word an_anchor = codes "anchor"
+first_word a_linear = codes "linear"
+first_word a_twist = codes "twist"
+first_word a_case = codes "case"
+first_word a_force = codes "force"
+
+-- the fields behind the first word
+abbrev pub row : Form → List Field
+row a_material = own_name ∷ within modulus ∷ within poisson_ratio ∷ within expansion ∷ within density ∷ []
+row a_section = own_name ∷ name_in space_of.Material ∷ within diameter ∷ within wall ∷ within wall_allowance ∷ within extra_weight ∷ []
+row a_node = own_name ∷ within coordinate ∷ within coordinate ∷ within coordinate ∷ []
+row a_straight = own_name ∷ name_in space_of.Node ∷ name_in space_of.Node ∷ name_in space_of.Section ∷ []
+row an_anchor = own_name ∷ name_in space_of.Node ∷ stiffness_or_default ∷ stiffness_or_default ∷ []
+row a_linear = own_name ∷ name_in space_of.Node ∷ direction ∷ stiffness_or_default ∷ []
+row a_twist = own_name ∷ name_in space_of.Node ∷ direction ∷ stiffness_or_default ∷ []
+row a_case = own_name ∷ within acceleration ∷ within acceleration ∷ within acceleration ∷ flag ∷ within temperature_change ∷ within pressure ∷ []
+row a_force = name_in space_of.Case ∷ name_in space_of.Node ∷ within load ∷ within load ∷ within load ∷ within load ∷ within load ∷ within load ∷ []
+
+-- what a field gives: a name, the number of the record named, a whole number, a stiffness, a flag, a direction
+abbrev pub Value : Field → Type 0
+Value own_name = List ℕ
+Value (name_in space) = ℕ
+Value (within range) = ℤ
+Value stiffness_or_default = Option ℤ
+Value flag = Bool
+Value direction = Direction
+
+abbrev pub Values : List Field → Type 0
+Values [] = Unit {0}
+Values (f ∷ fs) = Value f × Values fs
+
+-- how many words a field has
+abbrev pub width : Field → ℕ
+width own_name = 1
+width (name_in space) = 1
+width (within range) = 1
+width stiffness_or_default = 1
+width flag = 1
+width direction = 3
+
+abbrev pub row_width : List Field → ℕ
+row_width [] = 0
+row_width (f ∷ fs) = width f + row_width fs
+
+-- the record of a row's values
+abbrev pub made : (f : Form) → Values (row f) → Record
+made a_material (name, (e, (nu, (alpha, (rho, _))))) = record_of.Material (record { name = name; e = e; nu = nu; alpha = alpha; rho = rho })
+made a_section (name, (material, (d, (t, (allowance, (extra, _)))))) =
+    record_of.Section (record { name = name; material = record { 0 = material }; d = d; t = t; allowance = allowance; extra = extra })
+made a_node (name, (x, (y, (z, _)))) = record_of.Node (record { name = name; x = x; y = y; z = z })
+made a_straight (name, (from, (to, (section, _)))) =
+    record_of.Element (record { name = name; from = record { 0 = from }; to = record { 0 = to }; section = record { 0 = section }; shape = Straight })
+made an_anchor (name, (node, (kt, (kr, _)))) = record_of.Restraint (record { name = name; node = record { 0 = node }; kind = Anchor kt kr })
+made a_linear (name, (node, (d, (k, _)))) = record_of.Restraint (record { name = name; node = record { 0 = node }; kind = Linear d.x d.y d.z k })
+made a_twist (name, (node, (d, (k, _)))) = record_of.Restraint (record { name = name; node = record { 0 = node }; kind = Twist d.x d.y d.z k })
+made a_case (name, (gx, (gy, (gz, (hangers, (dt, (p, _))))))) = record_of.Case (record { name = name; gx = gx; gy = gy; gz = gz; hangers = hangers; dt = dt; p = p })
+made a_force (case, (node, (fx, (fy, (fz, (mx, (my, (mz, _)))))))) =
+    record_of.Force (record { case = record { 0 = case }; node = record { 0 = node }; fx = fx; fy = fy; fz = fz; mx = mx; my = my; mz = mz })
+
+-- ---- reading
+
+-- the number of the record of that name, or 4294967295, which is no record's
+abbrev pub number_or_none : Lists → Space → List ℕ → ℕ
+number_or_none m space name = unwrap_or (number_of m space name) 4294967295
+
+-- the number of the record that a word names: 7 where the word isn't a name
+abbrev pub number_named : Lists → Space → List ℕ → Result ℕ ℕ
+number_named m space w = name_at w >>= λ name. Ok (number_or_none m space name)
+
+-- what a field gives whose first word is word k
+abbrev pub read_field : Lists → (f : Field) → List (List ℕ) → ℕ → Result (Value f) ℕ
+read_field m own_name ws k = name_at (word ws k)
+read_field m (name_in space) ws k = number_named m space (word ws k)
+read_field m (within range) ws k = number_in range (word ws k)
+read_field m stiffness_or_default ws k = stiffness_at (word ws k)
+read_field m flag ws k = flag_at (word ws k)
+read_field m direction ws k = direction_at ws k
+
+-- what the fields from word k on give, from the left, or the number of the first that is refused
+abbrev pub read_row : Lists → (fs : List Field) → List (List ℕ) → ℕ → (Values fs → Record) → Result Record ℕ
+read_row m [] ws k make = Ok (make tt)
+read_row m (f ∷ fs) ws k make = read_field m f ws k >>= λ v. read_row m fs ws (k + width f) (λ vs. make (v, vs))
+
+-- the record of a line in that form: 5 where it has too few or too many words
+abbrev pub record_in : Lists → Form → List (List ℕ) → Result Record ℕ
+record_in m f ws = refuse_if (not (length ws == 1 + row_width (row f))) 5 >>= λ _. read_row m (row f) ws 1 (made f)
+
+-- ---- writing
+
+-- the name of that number
+abbrev pub name_of : Lists → Space → ℕ → List ℕ
+name_of m space number = slice_index_or (names_in m space) number []
+
+-- a stiffness, or `-` for the default
+abbrev pub stiffness_word : Option ℤ → List ℕ
+stiffness_word None = codes "-"
+stiffness_word (Some k) = signed_decimal k
+
+abbrev pub flag_word : Bool → List ℕ
+flag_word b = if b then codes "1" else codes "0"
+
+abbrev pub field_words : Lists → (f : Field) → Value f → List (List ℕ)
+field_words m own_name name = name ∷ []
+field_words m (name_in space) number = name_of m space number ∷ []
+field_words m (within range) n = signed_decimal n ∷ []
+field_words m stiffness_or_default k = stiffness_word k ∷ []
+field_words m flag b = flag_word b ∷ []
+field_words m direction d = signed_decimal d.x ∷ signed_decimal d.y ∷ signed_decimal d.z ∷ []
+
+abbrev pub row_words : Lists → (fs : List Field) → Values fs → List (List ℕ)
+row_words m [] vs = []
+row_words m (f ∷ fs) (v, vs) = field_words m f v ++ row_words m fs vs
+
+-- the words of a line in that form
+abbrev pub form_words : Lists → (f : Form) → Values (row f) → List (List ℕ)
+form_words m f vs = first_word f ∷ row_words m (row f) vs
+
+-- those of a restraint, by its kind
+abbrev pub restraint_words : Lists → List ℕ → ℕ → RestraintKind → List (List ℕ)
+restraint_words m name node (Anchor kt kr) = form_words m an_anchor (name, (node, (kt, (kr, tt))))
+restraint_words m name node (Linear dx dy dz k) = form_words m a_linear (name, (node, (record { x = dx; y = dy; z = dz }, (k, tt))))
+restraint_words m name node (Twist dx dy dz k) = form_words m a_twist (name, (node, (record { x = dx; y = dy; z = dz }, (k, tt))))
+
+-- those of a record
+abbrev pub words_of : Lists → Record → List (List ℕ)
+words_of m (record_of.Material r) = form_words m a_material (r.name, (r.e, (r.nu, (r.alpha, (r.rho, tt)))))
+words_of m (record_of.Section r) = form_words m a_section (r.name, (r.material.0, (r.d, (r.t, (r.allowance, (r.extra, tt))))))
+words_of m (record_of.Node r) = form_words m a_node (r.name, (r.x, (r.y, (r.z, tt))))
+words_of m (record_of.Element r) = form_words m a_straight (r.name, (r.from.0, (r.to.0, (r.section.0, tt))))
+words_of m (record_of.Restraint r) = restraint_words m r.name r.node.0 r.kind
+words_of m (record_of.Case r) = form_words m a_case (r.name, (r.gx, (r.gy, (r.gz, (r.hangers, (r.dt, (r.p, tt)))))))
+words_of m (record_of.Force r) = form_words m a_force (r.case.0, (r.node.0, (r.fx, (r.fy, (r.fz, (r.mx, (r.my, (r.mz, tt))))))))
