@@ -1,9 +1,9 @@
 ghost use Rattle.std.specs.Prelude.{◌≤◌, IfOk};
 
 use flex_io::{
-    Failed, Gate, Idle, SafeSink, SafeSource, Status, StdSink, StdSource, TakeFault, code, put_all,
-    take_all,
+    Gate, Idle, SafeSink, SafeSource, Status, StdSink, StdSource, TakeFault, code, put_all, take_all,
 };
+use std::alloc::Global;
 use std::io;
 use std::io::{ErrorKind, Read, Write};
 use std::test::Fail;
@@ -56,18 +56,11 @@ impl Write for Script {
     }
 }
 
-// Interrupted, three bytes, one byte, and then an error of this kind.
-fn scripted(kind: ErrorKind) -> Script {
-    let interrupted = Turn::Breaks(ErrorKind::Interrupted);
-    Script {
-        turns: [
-            interrupted,
-            Turn::Bytes(3),
-            Turn::Bytes(1),
-            Turn::Breaks(kind),
-        ],
-        at: 0,
-    }
+const INTERRUPTED: Turn = Turn::Breaks(ErrorKind::Interrupted);
+const BROKEN: Turn = Turn::Breaks(ErrorKind::Other);
+
+fn scripted(turns: [Turn; 4]) -> Script {
+    Script { turns, at: 0 }
 }
 
 #[test]
@@ -94,14 +87,9 @@ fn takes_to_the_end_or_past_the_limit(rt: HostRuntime) -> Result<(), Fail> {
 #[test]
 fn puts_while_there_is_room(rt: HostRuntime) -> Result<(), Fail> {
     let mut sink = SafeSink::new(rt.alloc(), 5)?;
-    let rows: [(&[u8], Result<(), Failed>); 4] = [
-        (b"pip", Ok(())),
-        (b"efl", Err(Failed)),
-        (b"e!", Ok(())),
-        (b"", Ok(())),
-    ];
-    for (piece, want) in rows {
-        assert!(rt; put_all(&mut sink, piece) == want, "{piece:?}");
+    let rows: [(&[u8], bool); 4] = [(b"pip", true), (b"efl", false), (b"e!", true), (b"", true)];
+    for (piece, is_put) in rows {
+        assert!(rt; put_all(&mut sink, piece).is_ok() == is_put, "{piece:?}");
     }
     assert_eq!(rt; sink.bytes(), b"pipe!".as_slice());
     Ok(())
@@ -113,29 +101,48 @@ fn reads_from_standard_readers(rt: HostRuntime) -> Result<(), Fail> {
     let text = take_all(rt.alloc(), &mut source, 100)?;
     assert_eq!(rt; text.as_slice(), b"pipeflex 1\n".as_slice());
 
-    let mut ending = StdSource::new(scripted(ErrorKind::Interrupted));
-    let text = take_all(rt.alloc(), &mut ending, 100)?;
-    assert_eq!(rt; text.as_slice(), [7, 7, 7, 7].as_slice());
-
-    let mut breaking = StdSource::new(scripted(ErrorKind::Other));
-    let fault = take_all(rt.alloc(), &mut breaking, 100);
-    assert_eq!(rt; fault.err(), Some(TakeFault::Read));
+    // What a text has that is read to its end, and one that is read after it. `None` is a read fault.
+    for (turns, first, second) in [
+        ([INTERRUPTED, Turn::Bytes(3), Turn::Bytes(1), INTERRUPTED], Some(4), Some(0)),
+        ([INTERRUPTED, INTERRUPTED, Turn::Bytes(0), Turn::Bytes(2)], Some(0), Some(2)),
+        ([INTERRUPTED, BROKEN, Turn::Bytes(2), INTERRUPTED], None, Some(2)),
+        ([Turn::Bytes(3), BROKEN, Turn::Bytes(1), BROKEN], None, None),
+    ] {
+        let mut source = StdSource::new(scripted(turns));
+        let found = (taken(rt.alloc(), &mut source), taken(rt.alloc(), &mut source));
+        assert!(rt; found == (first, second));
+    }
     Ok(())
+}
+
+// How many bytes are taken to the end, or `None` at a read fault.
+fn taken(alloc: Global, source: &mut StdSource<Script>) -> Option<usize> {
+    match take_all(alloc, source, 100) {
+        Ok(bytes) => Some(bytes.len()),
+        Err(TakeFault::Read) => None,
+        Err(TakeFault::NoMemory) => Some(usize::MAX),
+    }
 }
 
 #[test]
 fn writes_to_standard_writers(rt: HostRuntime) -> Result<(), Fail> {
-    let mut sink = StdSink::new(Vec::new(rt.alloc()));
-    assert_eq!(rt; put_all(&mut sink, b"end\n"), Ok(()));
+    let mut bytes = b"end".to_vec(rt.alloc())?;
+    let mut sink = StdSink::new(&mut bytes);
+    let is_put = put_all(&mut sink, b" of\n").is_ok() && put_all(&mut sink, b"text\n").is_ok();
+    assert!(rt; is_put);
+    assert_eq!(rt; bytes.as_slice(), b"end of\ntext\n".as_slice());
 
-    for (kind, piece, put) in [
-        (ErrorKind::Other, b"four".as_slice(), Ok(())),
-        (ErrorKind::Other, b"fives".as_slice(), Err(Failed)),
-        // No byte is taken after the script, which is a fault too.
-        (ErrorKind::Interrupted, b"fives".as_slice(), Err(Failed)),
+    // Whether a piece of four bytes is put, and one that is put after it.
+    for (turns, first, second) in [
+        ([INTERRUPTED, Turn::Bytes(3), Turn::Bytes(1), INTERRUPTED], true, false),
+        ([BROKEN, INTERRUPTED, Turn::Bytes(4), Turn::Bytes(4)], false, true),
+        ([Turn::Bytes(3), BROKEN, Turn::Bytes(4), Turn::Bytes(4)], false, true),
+        ([Turn::Bytes(0), Turn::Bytes(4), Turn::Bytes(4), Turn::Bytes(4)], false, true),
+        ([Turn::Bytes(3), Turn::Bytes(0), BROKEN, Turn::Bytes(4)], false, false),
     ] {
-        let mut sink = StdSink::new(scripted(kind));
-        assert_eq!(rt; put_all(&mut sink, piece), put);
+        let mut sink = StdSink::new(scripted(turns));
+        let found = (put_all(&mut sink, b"four").is_ok(), put_all(&mut sink, b"more").is_ok());
+        assert!(rt; found == (first, second));
     }
     Ok(())
 }

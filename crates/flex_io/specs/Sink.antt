@@ -3,9 +3,9 @@ use Rattle.std.specs.Prelude.{◌≡◌, ℕ, ◌-◌, ◌≤◌, List, [], Opti
 use Rattle.std.specs.Option.{option_map}
 use Rattle.std.specs.Io.KnownBytes.{Appends}
 
--- a first part of these bytes was added
-abbrev pub AppendsPrefix : Option (List ℕ) → Option (List ℕ) → List ℕ → Type 0
-AppendsPrefix old new bytes = (part rest : List ℕ) × Appends old new part × (bytes ≡ part ++ rest)
+-- it holds of a first part of these bytes, which may be none of them or all
+abbrev pub SomePrefix : List ℕ → (List ℕ → Type 0) → Type 0
+SomePrefix bytes holds = (part rest : List ℕ) × holds part × (bytes ≡ part ++ rest)
 
 -- the sink tells its room, and so many bytes fit
 abbrev pub HasRoom : Option ℕ → ℕ → Type 0
@@ -22,5 +22,5 @@ pub record WritesAll {K : Type 0} (held : K → Option (List ℕ)) (before after
 
 -- a first part of these bytes was added to a sink. Where there are none, it stays as it was
 pub record WritesPart {K : Type 0} (held : K → Option (List ℕ)) (before after : K) (bytes : List ℕ) : Type 0 where
-  pub added : AppendsPrefix (held before) (held after) bytes
+  pub added : SomePrefix bytes (Appends (held before) (held after))
   pub none : bytes ≡ [] → after ≡ before

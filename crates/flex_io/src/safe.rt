@@ -1,7 +1,8 @@
 //! Streams in memory that tell all that they hold.
 ghost use Rattle.std.specs.Prelude.{◌≡◌, ◌+◌, ◌-◌, ◌<◌, ◌≤◌, ◌++◌, ◌↔◌, ℕ, List, [], Some, IfOk, IsOk, OnErr, OnOk, IsErr, length, take, drop, min};
-ghost use Rattle.std.specs.Io.KnownBytes.{Appends, Consumes, Keeps};
-ghost use Rattle.flex_io.specs.Fault.{Rose};
+ghost use Rattle.std.specs.Io.KnownBytes.{Appends};
+ghost use Rattle.flex_io.specs.Fault.{after_fault};
+ghost use Rattle.flex_io.specs.Source.{EndsAtZero};
 
 use super::NoMemory;
 use super::streams::{Failed, Sink, Source};
@@ -39,7 +40,13 @@ impl Source for SafeSource {
 
     ghost faults = { λ _. 0 };
 
-    fn read(&mut self, buf: &mut [u8]) -> Result<usize, Failed> {
+    fn read(&mut self, buf: &mut [u8]) -> Result<usize, Failed>
+        requires { 0 < length buf.old }
+        ensures bound { IfOk result (λ n. n ≤ length buf.new) }
+        ensures taken { IfOk result (λ n. self.old ≡ take n buf.new ++ self.new) }
+        ensures end { IfOk result (EndsAtZero (Some self.old)) }
+        ensures sound { IsOk result }
+    {
         let n = copy_front(&self.bytes[self.at..], buf);
         self.at += n;
         Ok(n)
@@ -114,11 +121,11 @@ impl Sink for SafeSink {
         ensures full { IsErr result ↔ (self.old.room < length piece.now) }
         ensures added { IfOk result (λ n.
             Appends (Some self.old.bytes) (Some self.new.bytes) (take n piece.now)) }
-        ensures failed { OnErr result (Rose self.old.faults self.new.faults) }
-        ensures kept { OnErr result (Keeps (Some self.old.bytes) (Some self.new.bytes)) }
-        ensures counted { self.old.faults ≤ self.new.faults }
         ensures steady { OnOk result (self.new.faults ≡ self.old.faults) }
         ensures room_left { IfOk result (λ n. self.new.room ≡ self.old.room - n) }
+        // A failed write changes its count alone.
+        ensures failed { OnErr result (self.new ≡ record self.old { faults = after_fault self.old.faults }) }
+        ensures counted { self.old.faults ≤ self.new.faults }
     {
         if piece.len() > self.size - self.bytes.len() {
             self.faults = self.faults.saturating_add(1);

@@ -1,11 +1,13 @@
 //! Streams over the standard readers and writers. They tell of their bytes what these tell: all of
 //! a text in memory, and nothing of a file, a pipe or a terminal.
-ghost use Rattle.std.specs.Prelude.{◌≡◌, ◌<◌, ◌≤◌, None, IfOk, OnErr, length, take};
+ghost use Rattle.std.specs.Prelude.{◌≡◌, ◌<◌, ◌≤◌, None, IfOk, OnErr, OnOk, length, take};
 ghost use Rattle.std.specs.Io.KnownBytes.{Appends, Consumes, Keeps};
+ghost use Rattle.flex_io.specs.Fault.{after_fault};
 ghost use Rattle.flex_io.specs.Source.{EndsAtZero};
 
 use super::streams::{Failed, Sink, Source};
 use std::io::{ErrorKind, Read, Write};
+use std::marker::Model;
 
 /// A source over a standard reader. A read that a signal interrupts is tried again, and any other
 /// error is a fault.
@@ -15,10 +17,18 @@ pub struct StdSource<R> {
     faults: u64,
 }
 
+impl<R> Model for StdSource<R> {
+    ghost use Rattle.flex_io.specs.Counted.{Counted};
+
+    ghost Value = { Counted R };
+
+    ghost view = { λ s. record { inner = s.inner; faults = s.faults } };
+}
+
 impl<R: Read> StdSource<R> {
     /// A source over this reader, with no fault so far.
     pub fn new(inner: R) -> StdSource<R>
-        ensures { ⟦<StdSource<R> as Source>⟧.faults result ≡ 0 }
+        ensures { result ≡ record { inner = inner; faults = 0 } }
     {
         StdSource { inner, faults: 0 }
     }
@@ -29,7 +39,18 @@ impl<R: Read> Source for StdSource<R> {
 
     ghost faults = { λ s. s.faults };
 
-    fn read(&mut self, buf: &mut [u8]) -> Result<usize, Failed> {
+    fn read(&mut self, buf: &mut [u8]) -> Result<usize, Failed>
+        requires { 0 < length buf.old }
+        ensures bound { IfOk result (λ n. n ≤ length buf.new) }
+        ensures taken { IfOk result (λ n.
+            Consumes (R.remaining self.old.inner) (R.remaining self.new.inner) (take n buf.new)) }
+        ensures end { IfOk result (EndsAtZero (R.remaining self.old.inner)) }
+        // Each fault that is told is counted once.
+        ensures steady { OnOk result (self.new.faults ≡ self.old.faults) }
+        ensures failed { OnErr result (self.new.faults ≡ after_fault self.old.faults) }
+        ensures counted { self.old.faults ≤ self.new.faults }
+        ensures kept { OnErr result (Keeps (R.remaining self.old.inner) (R.remaining self.new.inner)) }
+    {
         let result = read_on(&mut self.inner, buf);
         if result.is_err() {
             self.faults = self.faults.saturating_add(1);
@@ -65,10 +86,18 @@ pub struct StdSink<W> {
     faults: u64,
 }
 
+impl<W> Model for StdSink<W> {
+    ghost use Rattle.flex_io.specs.Counted.{Counted};
+
+    ghost Value = { Counted W };
+
+    ghost view = { λ s. record { inner = s.inner; faults = s.faults } };
+}
+
 impl<W: Write> StdSink<W> {
     /// A sink over this writer, with no fault so far.
     pub fn new(inner: W) -> StdSink<W>
-        ensures { ⟦<StdSink<W> as Sink>⟧.faults result ≡ 0 }
+        ensures { result ≡ record { inner = inner; faults = 0 } }
     {
         StdSink { inner, faults: 0 }
     }
@@ -81,7 +110,18 @@ impl<W: Write> Sink for StdSink<W> {
 
     ghost room = { λ _. None };
 
-    fn write(&mut self, piece: &[u8]) -> Result<usize, Failed> {
+    fn write(&mut self, piece: &[u8]) -> Result<usize, Failed>
+        requires { 0 < length piece.now }
+        ensures some { IfOk result (λ n. 0 < n) }
+        ensures bound { IfOk result (λ n. n ≤ length piece.now) }
+        ensures added { IfOk result (λ n.
+            Appends (W.contents self.old.inner) (W.contents self.new.inner) (take n piece.now)) }
+        // Each fault that is told is counted once.
+        ensures steady { OnOk result (self.new.faults ≡ self.old.faults) }
+        ensures failed { OnErr result (self.new.faults ≡ after_fault self.old.faults) }
+        ensures counted { self.old.faults ≤ self.new.faults }
+        ensures kept { OnErr result (Keeps (W.contents self.old.inner) (W.contents self.new.inner)) }
+    {
         let result = write_on(&mut self.inner, piece);
         if result.is_err() {
             self.faults = self.faults.saturating_add(1);

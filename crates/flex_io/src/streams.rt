@@ -1,12 +1,12 @@
 //! Sources and sinks of bytes.
-ghost use Rattle.std.specs.Prelude.{◌≡◌, ◌<◌, ◌≤◌, ℕ, List, Option, IfOk, IsOk, OnErr, length, take};
+ghost use Rattle.std.specs.Prelude.{◌≡◌, ◌<◌, ◌≤◌, ℕ, List, Option, IfOk, IsOk, OnErr, OnOk, length, take};
 ghost use Rattle.std.specs.Io.KnownBytes.{Appends, Consumes, Keeps};
 ghost use Rattle.flex_io.specs.Fault.{Rose};
 ghost use Rattle.flex_io.specs.Source.{EndsAtZero};
 ghost use Rattle.flex_io.specs.Sink.{HasRoom, room_after};
 
 /// A read or a write failed. The stream that it failed on has counted the fault.
-#[derive(Clone, Copy, Debug, PartialEq, Eq)]
+#[derive(Drop)]
 pub struct Failed;
 
 /// Where bytes come from.
@@ -25,7 +25,8 @@ pub trait Source {
             Consumes (left self.old) (left self.new) (take n buf.new)) }
         ensures end { IfOk result (EndsAtZero (left self.old)) }
 
-        // A read fails only where the count rose, and takes nothing.
+        // A read that gives counts no fault. One that fails is counted, and takes nothing.
+        ensures steady { OnOk result (faults self.new ≡ faults self.old) }
         ensures failed { OnErr result (Rose (faults self.old) (faults self.new)) }
         ensures kept { OnErr result (Keeps (left self.old) (left self.new)) }
         ensures counted { faults self.old ≤ faults self.new };
@@ -50,14 +51,14 @@ pub trait Sink {
         ensures added { IfOk result (λ n.
             Appends (held self.old) (held self.new) (take n piece.now)) }
 
-        // A write fails only where the count rose, and adds nothing.
+        // A write that adds counts no fault. One that fails is counted, and adds nothing.
+        ensures steady { OnOk result (faults self.new ≡ faults self.old) }
         ensures failed { OnErr result (Rose (faults self.old) (faults self.new)) }
         ensures kept { OnErr result (Keeps (held self.old) (held self.new)) }
         ensures counted { faults self.old ≤ faults self.new }
 
-        // Told room is kept: what fits is taken, and no fault is counted.
+        // What fits the told room is taken, and takes room of its length. A failed write takes none.
         ensures fits { HasRoom (room self.old) (length piece.now) → IsOk result }
-        ensures steady { HasRoom (room self.old) (length piece.now)
-            → faults self.new ≡ faults self.old }
-        ensures room_left { IfOk result (λ n. room self.new ≡ room_after (room self.old) n) };
+        ensures room_left { IfOk result (λ n. room self.new ≡ room_after (room self.old) n) }
+        ensures room_kept { OnErr result (room self.new ≡ room self.old) };
 }

@@ -3,14 +3,14 @@ ghost use Rattle.std.specs.Prelude.{◌≡◌, ◌+◌, ◌<◌, ◌≤◌, ℕ,
 ghost use Rattle.std.specs.Io.KnownBytes.{Appends, Consumes, Keeps};
 ghost use Rattle.flex_io.specs.Fault.{Rose};
 ghost use Rattle.flex_io.specs.Source.{ConsumesAtMost, EndsAtZero};
-ghost use Rattle.flex_io.specs.Sink.{AppendsPrefix, HasRoom, room_after};
+ghost use Rattle.flex_io.specs.Sink.{HasRoom, SomePrefix, room_after};
 
 use super::streams::{Failed, Sink, Source};
 use std::alloc::Global;
 use thiserror::Error;
 
 /// Why a text was not taken.
-#[derive(Clone, Copy, Debug, PartialEq, Eq, Error)]
+#[derive(Debug, Drop, Error)]
 pub enum TakeFault {
     /// A read failed.
     #[error("a read failed")]
@@ -33,7 +33,9 @@ pub fn take_all<S: Source>(alloc: Global, s: &mut S, limit: usize) -> Result<Vec
 
     // Bytes that came before a fault are taken and lost.
     ensures lost { OnErr result (ConsumesAtMost (S.left s.old) (S.left s.new) (limit + 1)) }
+    // A fault that was counted is told, and a fault is told only where it was counted.
     ensures read { IsErrOf result TakeFault.Read → Rose (S.faults s.old) (S.faults s.new) }
+    ensures steady { ¬ IsErrOf result TakeFault.Read → S.faults s.new ≡ S.faults s.old }
     ensures counted { S.faults s.old ≤ S.faults s.new }
 {
     let mut bytes = Vec::new(alloc);
@@ -79,6 +81,7 @@ fn read_at<S: Source>(s: &mut S, buf: &mut [u8], at: usize) -> Result<usize, Fai
     ensures taken { IfOk result (λ n.
         Consumes (S.left s.old) (S.left s.new) (take n (drop at buf.new))) }
     ensures end { IfOk result (EndsAtZero (S.left s.old)) }
+    ensures steady { OnOk result (S.faults s.new ≡ S.faults s.old) }
     ensures failed { OnErr result (Rose (S.faults s.old) (S.faults s.new)) }
     ensures kept { OnErr result (Keeps (S.left s.old) (S.left s.new)) }
     ensures counted { S.faults s.old ≤ S.faults s.new }
@@ -90,14 +93,17 @@ fn read_at<S: Source>(s: &mut S, buf: &mut [u8], at: usize) -> Result<usize, Fai
 pub fn put_all<K: Sink>(k: &mut K, bytes: &[u8]) -> Result<(), Failed>
     ensures ok { OnOk result (Appends (K.held k.old) (K.held k.new) bytes.now) }
 
-    // A first part is written before a fault.
-    ensures err { OnErr result (AppendsPrefix (K.held k.old) (K.held k.new) bytes.now) }
+    // A first part is written before a fault, and takes the room of its length.
+    ensures err { OnErr result (SomePrefix bytes.now (λ part. Appends (K.held k.old) (K.held k.new) part
+        × (K.room k.new ≡ room_after (K.room k.old) (length part)))) }
+
+    // A fault that was counted is told, and a fault is told only where it was counted.
+    ensures steady { OnOk result (K.faults k.new ≡ K.faults k.old) }
     ensures failed { OnErr result (Rose (K.faults k.old) (K.faults k.new)) }
     ensures counted { K.faults k.old ≤ K.faults k.new }
 
-    // Told room is kept.
+    // What fits the told room is written.
     ensures fits { HasRoom (K.room k.old) (length bytes.now) → IsOk result }
-    ensures steady { HasRoom (K.room k.old) (length bytes.now) → K.faults k.new ≡ K.faults k.old }
     ensures room_left { OnOk result (K.room k.new ≡ room_after (K.room k.old) (length bytes.now)) }
 
     // Without a byte to write, the sink stays as it is.

@@ -1,9 +1,10 @@
 -- What a run of the program does, by its words and the text that its source has left.
-use Rattle.std.specs.Prelude.{◌≡◌, ℕ, ◌≤◌, ◌⊎◌, ⊤, List, [], ◌∷◌, ◌++◌, Option, Some, IfSome, Ok, Err, String, string_bytes, map, drop, codes}
+use Rattle.std.specs.Prelude.{◌≡◌, ◌≢◌, ℕ, ◌≤◌, ◌⊎◌, ⊤, List, [], ◌∷◌, ◌++◌, Option, Some, IfSome, Ok, Err, String, string_bytes, map, drop, codes}
 use Rattle.std.specs.Fmt.{decimal}
 use Rattle.std.specs.Global.{Global}
 use Rattle.flex_io.specs.declared.Status.{Status}
 use Rattle.flex_io.specs.declared.Status.TheVariants.{Done, Uncertified, Refused, Usage, ReadFault, WriteFault, NoMemory}
+use Rattle.flex_io.specs.Fault.{Rose}
 use Rattle.flex_io.specs.Source.{ConsumesAtMost}
 use Rattle.model_text.specs.Canonical.{canonical}
 use Rattle.model_text.specs.Grammar.{Refusal, parsed}
@@ -144,6 +145,11 @@ Answers words left after output message Usage = ¬ (HasForm words) × (output �
 Answers words left after output message ReadFault = AnswersWithoutText words left after output message read_fault_line
 Answers words left after output message WriteFault = ⊥
 Answers words left after output message NoMemory = AnswersWithoutText words left after output message []
+
+-- a read fault is told where the source's count of faults rose, and nowhere else
+pub record TellsReadFault (told : Status) (before after : ℕ) : Type 0 where
+  pub rose : told ≡ ReadFault → Rose before after
+  pub steady : told ≢ ReadFault → after ≡ before
 
 -- how a run may end that has written the command's output
 abbrev pub IsEnding : Command → Status → Type 0

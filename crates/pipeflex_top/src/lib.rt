@@ -6,10 +6,12 @@ mod commands;
 mod laws;
 mod member_table;
 mod one_straight;
+mod process;
 mod program;
 mod refusal;
 mod reply;
 mod written;
 
 pub use laws::report_is_determined;
+pub use process::run_process;
 pub use program::run;

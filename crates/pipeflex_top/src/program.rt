@@ -7,7 +7,7 @@ ghost use Rattle.model_text.specs.Grammar.{parsed};
 ghost use Rattle.pipeflex_top.specs.declared.commands.Command.TheVariants.{Members, Analyse};
 ghost use Rattle.pipeflex_top.specs.Analysis.{IsReport};
 ghost use Rattle.pipeflex_top.specs.Enclosure.{PrintsEnclosures};
-ghost use Rattle.pipeflex_top.specs.Run.{Answers, Asks, Decides, HasForm, message_bytes};
+ghost use Rattle.pipeflex_top.specs.Run.{Answers, Asks, Decides, HasForm, TellsReadFault, message_bytes};
 
 use crate::reply::{Reply, reply_to};
 use flex_io::{Gate, Sink, Source, Status, put_all};
@@ -36,11 +36,13 @@ pub fn run<R: Threads + Sync, S: Source, K: Sink, E: Sink, G: Gate>(
         × WritesAll K.held out.old out.new output
         × WritesAll E.held err.old err.new message }
 
-    // Or a sink failed that didn't tell room enough, and a first part of the answer was written.
+    // Or a sink failed that didn't tell room enough, and a first part of the answer was written. The
+    // answer tells a read fault exactly where the source's count rose.
     ensures broke_off { result ≡ Status.WriteFault → (output message : List ℕ) × (meant : Status)
         × Answers words.now (S.left source.old) (S.left source.new) output message meant
         × WritesPart K.held out.old out.new output
         × WritesPart E.held err.old err.new message
+        × TellsReadFault meant (S.faults source.old) (S.faults source.new)
         × ¬ (HasRoom (K.room out.old) (length output) × HasRoom (E.room err.old) (length message)) }
 
     // Each exact stiffness of each straight lies in the pair that is printed for its member.
@@ -57,11 +59,16 @@ pub fn run<R: Threads + Sync, S: Source, K: Sink, E: Sink, G: Gate>(
     // Wrong words leave the source unread.
     ensures unread { ¬ HasForm words.now → source.new ≡ source.old }
 
-    // A fault has its status only where its count rose. No count falls.
+    // A fault has its status where its count rose, and nowhere else, but that a read fault whose
+    // line meets a fault of a sink ends as a write fault. No count falls.
     ensures read_fault { result ≡ Status.ReadFault
         → Rose (S.faults source.old) (S.faults source.new) }
+    ensures source_steady { result ≢ Status.ReadFault → result ≢ Status.WriteFault
+        → S.faults source.new ≡ S.faults source.old }
     ensures write_fault { result ≡ Status.WriteFault
         → Rose (K.faults out.old) (K.faults out.new) ⊎ Rose (E.faults err.old) (E.faults err.new) }
+    ensures out_steady { result ≢ Status.WriteFault → K.faults out.new ≡ K.faults out.old }
+    ensures err_steady { result ≢ Status.WriteFault → E.faults err.new ≡ E.faults err.old }
     ensures source_counted { S.faults source.old ≤ S.faults source.new }
     ensures out_counted { K.faults out.old ≤ K.faults out.new }
     ensures err_counted { E.faults err.old ≤ E.faults err.new }
@@ -99,6 +106,8 @@ fn deliver<K: Sink, E: Sink>(reply: &Reply, out: &mut K, err: &mut E) -> Status
 
     ensures write_fault { result ≡ Status.WriteFault
         → Rose (K.faults out.old) (K.faults out.new) ⊎ Rose (E.faults err.old) (E.faults err.new) }
+    ensures out_steady { result ≢ Status.WriteFault → K.faults out.new ≡ K.faults out.old }
+    ensures err_steady { result ≢ Status.WriteFault → E.faults err.new ≡ E.faults err.old }
     ensures out_counted { K.faults out.old ≤ K.faults out.new }
     ensures err_counted { E.faults err.old ≤ E.faults err.new }
 {

@@ -1,8 +1,7 @@
 //! What the program has to say, before the first byte of it is written.
 ghost use Rattle.std.specs.Prelude.{◌≡◌, ◌≤◌, ◌↔◌, ℕ, List, [], IfOk, IsTrue, Ok};
-ghost use Rattle.flex_io.specs.Fault.{Rose};
 ghost use Rattle.model_text.specs.Grammar.{parsed};
-ghost use Rattle.pipeflex_top.specs.Run.{Answers, HasForm, IsAnswer, IsOutput, IsRefusedFor, Takes, message_bytes};
+ghost use Rattle.pipeflex_top.specs.Run.{Answers, HasForm, IsAnswer, IsOutput, IsRefusedFor, Takes, TellsReadFault, message_bytes};
 
 use crate::analysis::analysis;
 use crate::commands::{Command, command_of};
@@ -56,8 +55,7 @@ impl Message {
 pub fn reply_to<S: Source>(alloc: Global, words: &[String], source: &mut S) -> Reply
     ensures answers { Answers words.now (S.left source.old) (S.left source.new)
         result.output.items (message_bytes result.message) result.status }
-    ensures read_fault { result.status ≡ Status.ReadFault
-        → Rose (S.faults source.old) (S.faults source.new) }
+    ensures read_fault { TellsReadFault result.status (S.faults source.old) (S.faults source.new) }
     ensures counted { S.faults source.old ≤ S.faults source.new }
     ensures unread { ¬ HasForm words.now → source.new ≡ source.old }
 {

@@ -1,5 +1,5 @@
 //! What the program writes for words and a text, and how it ends.
-use flex_io::{Idle, SafeSink, SafeSource, Source, Status, StdSource, take_all};
+use flex_io::{Idle, SafeSink, SafeSource, Source, Status, StdSource, code, take_all};
 use pipeflex_top::run;
 use std::alloc::{AllocError, Global};
 use std::io;
@@ -149,7 +149,7 @@ fn ends<R: Threads + Sync + Abort, S: Source>(
     let mut err = SafeSink::new(alloc, message.len())?;
     let found = run(rt, alloc, line, source, &mut out, &mut err, &Idle);
     assert!(rt;
-        (found, out.bytes(), err.bytes()) == (status, told.as_bytes(), message.as_bytes()),
+        (code(found), out.bytes(), err.bytes()) == (code(status), told.as_bytes(), message.as_bytes()),
         "{told}{message}"
     );
     Ok(())
@@ -515,7 +515,14 @@ fn ends_at_a_limit_and_at_a_fault_of_the_source(rt: HostRuntime) -> Result<(), F
     let rest = take_all(rt.alloc(), &mut source, 10)?;
     assert!(rt; rest.len() == 1);
 
-    let mut source = StdSource::new(Breaking { is_begun: false });
-    let fault = (Status::ReadFault, "", "read fault\n");
-    ends(&rt, rt.alloc(), &line, &mut source, fault)
+    // A read fault is told, or where that line has no room ends as a write fault.
+    for (status, message) in [
+        (Status::ReadFault, "read fault\n"),
+        (Status::WriteFault, ""),
+    ] {
+        let mut source = StdSource::new(Breaking { is_begun: false });
+        let fault = (status, "", message);
+        ends(&rt, rt.alloc(), &line, &mut source, fault)?;
+    }
+    Ok(())
 }

@@ -1,4 +1,5 @@
-ghost use Rattle.std.specs.Prelude.{◌≡◌, ◌∷◌, ◌++◌, ◌==◌, map, position, option_copied, MatchOption, OnOk};
+ghost use Rattle.std.specs.Prelude.{◌≡◌, ◌∷◌, ◌++◌, ◌==◌, map, position, option_copied, MatchOption, OnErr, OnOk};
+ghost use Rattle.std.specs.Io.{StartsWith};
 ghost use Rattle.std.specs.Option.{option_map};
 ghost use Rattle.text_words.specs.Fields.{line, lines, lines_left, split_at_first, Lacks, IsSplit};
 
@@ -33,7 +34,10 @@ pub fn cut_line(text: &[u8]) -> (&[u8], Option<&[u8]>)
 /// Writes a line at the end: the words with single spaces between them, and a line feed.
 #[tactic(auto, unfolding(crate::specs::Fields::line))]
 pub fn push_line(out: &mut Vec<u8>, words: &[&[u8]]) -> Result<(), AllocError>
-    ensures { OnOk result (out.new.items ≡ out.old.items ++ line (map (λ word. word.now) words.now)) }
+    ensures written { OnOk result (out.new.items ≡ out.old.items ++ line (map (λ word. word.now) words.now)) }
+
+    // Where memory runs out, what was there before still stands before what was written.
+    ensures kept { OnErr result (StartsWith out.new.items out.old.items) }
 {
     for (i, word) in words.iter().enumerate() {
         if i > 0 {

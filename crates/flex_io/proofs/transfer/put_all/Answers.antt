@@ -47,8 +47,7 @@ loop-rest-preserved g c =
     let more = written_more _ _ _ _ _ _ _ before.written.0 rest n write.bound before.written.1 before.written.2 before.written.3 write.added write.room_left in
     record {
       written = (more.0, more.1, more.2 ∙ ap (λ xs. more.0 ++ xs) (sym (take_rest rest n)), more.3);
-      counted = omega (arith, write.counted);
-      steady = λ fits. write.steady (HasRoom-rest _ _ _ before.written.0 rest before.written.2 before.written.3 fits) ∙ before.steady fits;
+      steady = write.steady ∙ before.steady;
       untouched = λ none. absurd (omega (arith, write.some, write.bound, ap length (sym before.written.2 ∙ none), length-append before.written.0 rest));
     }
 
@@ -64,10 +63,5 @@ returns-clause-room_left g c =
 
 pub returns-in_err-n-clause-fits : goal.returns-in_err-n-clause-fits
 returns-in_err-n-clause-fits g c = λ room.
-    let before = c.loop-rest.invariant.written in
-    absurd (failed_ok (c.in_err-n.ensures.fits (HasRoom-rest _ _ _ before.0 c.loop-rest.rest.now before.2 before.3 room)))
-
-pub returns-in_err-n-clause-steady : goal.returns-in_err-n-clause-steady
-returns-in_err-n-clause-steady g c = λ room.
     let before = c.loop-rest.invariant.written in
     absurd (failed_ok (c.in_err-n.ensures.fits (HasRoom-rest _ _ _ before.0 c.loop-rest.rest.now before.2 before.3 room)))

@@ -1,4 +1,4 @@
-use Rattle.std.proofs.Common.{◌≡◌, ◌+◌, ◌≤◌, ℕ, List, [], Option, None, Some, IfSome, ◌++◌, append-nil, arith, sym, ap, subst, ◌∙◌, take, drop, length, take_at, take_all, length-take}
+use Rattle.std.proofs.Common.{◌≡◌, ◌+◌, ℕ, List, [], Option, None, Some, IfSome, ◌++◌, append-nil, arith, sym, ap, subst, ◌∙◌, take, drop, length, take_at, take_all, length-take}
 use Rattle.std.proofs.Math.Seq.{take-add}
 use Rattle.std.specs.Io.KnownBytes.{Consumes, IsAtEnd}
 use Rattle.std.proofs.KnownBytes.{Consumes-trans, Consumes-kept, Consumes-whole}
@@ -23,7 +23,7 @@ loop-filled-preserved g c =
       filled = omega (arith, read.fits, len);
       most = omega (arith, room.fits);
       taken = rw whole (Consumes-filled _ _ _ c.loop-filled.bytes.items c.read_at.new.buf c.loop-filled.filled c.in-Ok.n same c.loop-filled.invariant.taken read.taken);
-      counted = omega arith;
+      steady = omega arith;
     }
 
 -- a read leaves the bytes that stand before its room

@@ -1,4 +1,4 @@
-use Rattle.std.proofs.Common.{◌+◌, ◌-◌, ◌≤◌, take, vec_len, vec_items}
+use Rattle.std.proofs.Common.{◌≡◌, ◌+◌, ◌-◌, ◌≤◌, take, vec_len, vec_items}
 use Rattle.std.specs.Io.KnownBytes.{Consumes}
 use Rattle.flex_io.proofs.transfer.take_all.Given as goal
 
@@ -8,7 +8,7 @@ invariant-loop-filled g l = record {
   filled : l.filled ≤ vec_len l.bytes;
   most : vec_len l.bytes ≤ l.limit + 1;
   taken : Consumes (g.S.Source.left l.fn.s) (g.S.Source.left l.s) (take l.filled (vec_items l.bytes));
-  counted : g.S.Source.faults l.fn.s ≤ g.S.Source.faults l.s;
+  steady : g.S.Source.faults l.s ≡ g.S.Source.faults l.fn.s;
 }
 
 abbrev pub decreases-loop-filled : goal.decreases-loop-filled

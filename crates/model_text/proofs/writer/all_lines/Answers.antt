@@ -10,7 +10,7 @@ pub returns : goal.returns
 unfolding canonical
 returns c =
     let m = c.args.model.now in
-    let header = c.in_ok-push_line.ensures ∙ ap (λ l. l ++ line (codes "pipeflex" ∷ codes "1" ∷ [])) c.new-out.ensures.items in
+    let header = c.in_ok-push_line.ensures.written ∙ ap (λ l. l ++ line (codes "pipeflex" ∷ codes "1" ∷ [])) c.new-out.ensures.items in
     let materials = append_kind m record_of.Material m.materials c.materials.ensures.records header c.in_ok-put_all.ensures in
     let sections = append_kind m record_of.Section m.sections c.sections.ensures.records materials c.in_ok-put_all-2.ensures in
     let nodes = append_kind m record_of.Node m.nodes c.nodes.ensures.records sections c.in_ok-put_all-3.ensures in

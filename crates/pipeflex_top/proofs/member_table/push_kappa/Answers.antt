@@ -14,5 +14,5 @@ returns c =
     let number : c.as_bytes-number.result.now ≡ decimal c.args.j = c.as_bytes-number.ensures.value ∙ c.format.ensures.text in
     let lo : c.as_bytes-lo.result.now ≡ signed_decimal kappa.lo = c.as_bytes-lo.ensures.value ∙ c.format-2.ensures.text ∙ ap signed_decimal (to_z-of_z lo_fits) in
     let hi : c.as_bytes-hi.result.now ≡ signed_decimal kappa.hi = c.as_bytes-hi.ensures.value ∙ c.format-3.ensures.text ∙ ap signed_decimal (to_z-of_z hi_fits) in
-    let step = rw (number, lo, hi) at c.push_line.ensures in
+    let step = rw (number, lo, hi) at c.push_line.ensures.written in
     subst (λ (ends : Ends). OnOk c.push_line.result (c.push_line.new.out.items ≡ c.args.out.now.items ++ line (kappa_words c.args.j ends))) c.kappa.view_is step

@@ -13,7 +13,7 @@ returns-clause-ended g c = λ whole.
 pub returns-clause-broke_off : goal.returns-clause-broke_off
 returns-clause-broke_off g c = λ broke.
     let reply = c.reply_to-reply in
-    (reply.result.output.items, message_bytes reply.result.message, reply.result.status, reply.ensures.answers, c.deliver.ensures.out_part, c.deliver.ensures.err_part, λ room. c.deliver.ensures.room room.0 room.1 broke)
+    (reply.result.output.items, message_bytes reply.result.message, reply.result.status, reply.ensures.answers, c.deliver.ensures.out_part, c.deliver.ensures.err_part, reply.ensures.read_fault, λ room. c.deliver.ensures.room room.0 room.1 broke)
 
 pub returns-clause-write_fault : goal.returns-clause-write_fault
 returns-clause-write_fault g c = c.deliver.ensures.write_fault
@@ -22,7 +22,11 @@ pub returns-clause-read_fault : goal.returns-clause-read_fault
 returns-clause-read_fault g c = λ read.
     let apart : ¬ (◌≡◌ {A = Status} ReadFault WriteFault) = λ same. cc same in
     let whole : c.deliver.result ≢ WriteFault = λ broke. apart (sym read ∙ broke) in
-    c.reply_to-reply.ensures.read_fault (sym (c.deliver.ensures.status whole) ∙ read)
+    c.reply_to-reply.ensures.read_fault.rose (sym (c.deliver.ensures.status whole) ∙ read)
+
+pub returns-clause-source_steady : goal.returns-clause-source_steady
+returns-clause-source_steady g c = λ sound whole.
+    c.reply_to-reply.ensures.read_fault.steady (λ read. sound (c.deliver.ensures.status whole ∙ read))
 
 pub returns-clause-wrong_words : goal.returns-clause-wrong_words
 returns-clause-wrong_words g c = λ wrong out err.
@@ -35,7 +39,7 @@ returns-clause-decided g c = λ form source out err.
     let reply = c.reply_to-reply in
     let whole : c.deliver.result ≢ WriteFault = λ broke. elim (c.deliver.ensures.write_fault broke) [ inl rose ↦ out rose | inr rose ↦ err rose ] in
     let same = c.deliver.ensures.status whole in
-    let sound : c.deliver.result ≢ ReadFault = λ read. source (reply.ensures.read_fault (sym same ∙ read)) in
+    let sound : c.deliver.result ≢ ReadFault = λ read. source (reply.ensures.read_fault.rose (sym same ∙ read)) in
     Decides-answer _ _ _ _ _ _ (subst (Answers _ _ _ _ _) (sym same) reply.ensures.answers) form sound
 
 pub returns-clause-enclosed : goal.returns-clause-enclosed
