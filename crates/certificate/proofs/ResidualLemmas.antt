@@ -8,12 +8,14 @@ use Rattle.int_laws.proofs.SumLaws.{sum_below-same, sum_below-le, sum_below-sub,
 use Rattle.sym_blocks.specs.Matrix.{Matrix as SymMatrix, entry, node_count, pattern_of, IsSymmetricByBlocks}
 use Rattle.flex_num.specs.declared.guarded.GuardedSum.{GuardedSum}
 use Rattle.int_laws.specs.Matrices.{absolute, scalar_matrix}
-use Rattle.factor_data.specs.Order.{freedom_at, IsSpread, IsOrder}
+use Rattle.factor_data.specs.Order.{freedom_at}
+use Rattle.lists.specs.Order.{IsSpread, IsOrder}
 use Rattle.certificate.specs.RowSums.{sizes_total}
 use Rattle.flex_num.specs.Guarded.{value_at}
 use Rattle.certificate.specs.RowResidual.{missed, missed_total}
 use Rattle.int_laws.proofs.FormLaws.{scalar-outside}
-use Rattle.factor_data.proofs.OrderLemmas.{column-below, column-apart, contained_or_not, sum-pattern}
+use Rattle.factor_data.proofs.OrderLemmas.{column-below, column-apart, sum-pattern}
+use Rattle.lists.proofs.UniqueLemmas.{decide_contains}
 use Rattle.certificate.proofs.PatternLemmas.{pattern-spread}
 
 -- the node of a pattern's column is in the pattern
@@ -45,11 +47,11 @@ only-le nodes f c (inr none) up = up
 pub sum-pattern-le : (nodes : List ℕ) (n : ℕ) (f : ℕ → ℤ) → IsSpread nodes n → ((c : ℕ) → pos 0 ≤ℤ f c) →
     sum_below (6 * length nodes) (λ s. f (freedom_at nodes s)) ≤ℤ sum_below (6 * n) f
 sum-pattern-le nodes n f spread up =
-    let part = λ (c : ℕ). only nodes f c (contained_or_not nodes (c / 6)) in
+    let part = λ (c : ℕ). only nodes f c (decide_contains nodes (c / 6)) in
     let terms = sum_below-same (6 * length nodes) (λ s. part (freedom_at nodes s)) (λ s. f (freedom_at nodes s))
-    (λ s h. only-inside nodes f (freedom_at nodes s) (contained_or_not nodes (freedom_at nodes s / 6)) (node-contained nodes s h)) in
-    let whole = sum-pattern nodes n part spread (λ j _ none. only-outside nodes f j (contained_or_not nodes (j / 6)) none) in
-    let less = sum_below-le (6 * n) part f (λ c _. only-le nodes f c (contained_or_not nodes (c / 6)) (up c)) in
+    (λ s h. only-inside nodes f (freedom_at nodes s) (decide_contains nodes (freedom_at nodes s / 6)) (node-contained nodes s h)) in
+    let whole = sum-pattern nodes n part spread (λ j _ none. only-outside nodes f j (decide_contains nodes (j / 6)) none) in
+    let less = sum_below-le (6 * n) part f (λ c _. only-le nodes f c (decide_contains nodes (c / 6)) (up c)) in
     omega (arith, int_sums, terms, whole, less)
 
 -- ---- positions of a pattern's columns

@@ -4,7 +4,6 @@ pub mod Bounds
 pub mod Widening
 pub mod RowSums
 pub mod RowLists
-pub mod Places
 pub mod RowResidual
 pub mod Space
 pub mod Checker

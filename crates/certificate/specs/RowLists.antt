@@ -1,6 +1,7 @@
 -- The entries of a factor row by row, where the factor is kept by columns.
 use Rattle.std.specs.Prelude.{ℕ, ◌*◌, ◌^◌, ◌<◌, ◌≡◌, ℤ, pos, ◌+ℤ◌, ◌*ℤ◌, ◌≤ℤ◌, List, [], length, slice_index_or}
 use Rattle.int_laws.specs.Sums.{sum_below}
+use Rattle.lists.specs.Lists.{list_of}
 use Rattle.certificate.specs.declared.row_lists.RowEntry.{RowEntry}
 use Rattle.int_laws.specs.Matrices.{Vector, absolute}
 use Rattle.factor_data.specs.Columns.{Columns, column_rows, column_values, column_entry}
@@ -19,10 +20,6 @@ row_part weight entries list x =
 -- the whole row times x
 abbrev pub row_product : (ℤ → ℤ) → List RowEntry → Vector → ℤ
 row_product weight list x = row_part weight (length list) list x
-
--- the list of row i
-abbrev pub list_of : List (List RowEntry) → ℕ → List RowEntry
-list_of lists i = slice_index_or lists i []
 
 -- each row's list has the column's entry there besides
 pub record ListsColumn (old new : List (List RowEntry)) (column : ℕ) (rows : List ℕ) (values : List ℤ) : Type 0 where

@@ -11,7 +11,8 @@ ghost use Rattle.certificate.specs.Widening.{AreLimited, AreWidened, AreAroundDi
 use crate::fault::EncloseFault;
 use crate::radii::{displacement_radius, force_radius, plus_square, root_of_squares, widened};
 use flex_interval::{Iv, Wide, point};
-use member_set::{Built, Law, Sequence, member_forces, residual_from};
+use lists::Sequence;
+use member_set::{Built, Law, member_forces, residual_from};
 use std::alloc::Global;
 
 /// Bounds of every equilibrium of a structure under loads.

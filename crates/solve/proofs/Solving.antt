@@ -6,7 +6,7 @@ use Rattle.int_laws.specs.Sums.{sum_below}
 use Rattle.int_laws.proofs.Sums.{int_sums}
 use Rattle.int_laws.proofs.SumLaws.{sum_below-same}
 use Rattle.flex_num.specs.Division.{nearest_of}
-use Rattle.factor_data.specs.Order.{IsSpread}
+use Rattle.lists.specs.Order.{IsSpread}
 use Rattle.factor_data.specs.Columns.{column_entry}
 use Rattle.flex_num.specs.declared.guarded.GuardedSum.{GuardedSum}
 use Rattle.solve.specs.Substitution.{at, Numerator, IsQuotient, forward_numerator, forward_size, IsForwardBelow, IsForward, ForwardBreaks, backward_numerator, IsBackwardFrom}

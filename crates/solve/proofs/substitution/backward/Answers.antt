@@ -2,7 +2,7 @@ use Rattle.std.proofs.Common.{◌≡◌, List, ℕ, ◌+◌, ◌-◌, ◌^◌, l
 use Rattle.std.proofs.lemmas.Result.{err_from_is_err_and}
 use Rattle.std.proofs.lemmas.List.{get_or_default}
 use Rattle.std.specs.Int.{w64, w128}
-use Rattle.factor_data.specs.Order.{IsSpread}
+use Rattle.lists.specs.Order.{IsSpread}
 use Rattle.std.proofs.Math.ListN.{length-set}
 use Rattle.factor_data.specs.Columns.{entry, column_rows, column_values}
 use Rattle.solve.specs.Substitution.{at, IsBackwardFrom}
