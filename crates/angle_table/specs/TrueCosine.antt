@@ -27,20 +27,20 @@ abbrev pub above_cosine : Fraction → ℕ → Fraction → Bool
 above_cosine c zero x = is_at_most c x
 above_cosine c (suc n) x = int_le (pos 0) x.num && above_cosine c n (doubled x)
 
--- x, in 2^-56
-abbrev pub part : ℤ → Fraction
-part x = record { num = x; den = pos (2 ^ 56) }
+-- the number whose size in 2^-56 is x
+abbrev pub from_parts : ℤ → Fraction
+from_parts x = record { num = x; den = pos (2 ^ 56) }
 
 -- e holds the cosine of half of an angle that n doublings take to one of cosine c
 pub record EnclosesCosine (c : Fraction) (n : ℕ) (e : Ends) : Type 0 where
-  pub at_least : IsTrue (below_cosine c (suc n) (part e.lo))
-  pub at_most : IsTrue (above_cosine c (suc n) (part e.hi))
+  pub at_least : IsTrue (below_cosine c (suc n) (from_parts e.lo))
+  pub at_most : IsTrue (above_cosine c (suc n) (from_parts e.hi))
 
 -- e holds its sine, from 0 on, which is the less the greater the cosine of the whole angle is
 pub record EnclosesSine (c : Fraction) (n : ℕ) (e : Ends) : Type 0 where
   pub nonnegative : IsTrue (int_le (pos 0) e.lo)
-  pub at_least : IsTrue (above_cosine c n (doubled_sine (part e.lo)))
-  pub at_most : IsTrue (below_cosine c n (doubled_sine (part e.hi)))
+  pub at_least : IsTrue (above_cosine c n (doubled_sine (from_parts e.lo)))
+  pub at_most : IsTrue (below_cosine c n (doubled_sine (from_parts e.hi)))
 
 -- how often a bend's angle is doubled to give 60, 90 or 180 degrees
 abbrev pub doublings : ℕ → ℕ

@@ -7,3 +7,4 @@ pub mod SumLemmas
 pub mod BestRootLemmas
 pub mod SmallRatios
 pub mod SmallProducts
+pub mod SmallSums

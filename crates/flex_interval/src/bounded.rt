@@ -1,13 +1,14 @@
 ghost use Rattle.std.specs.Prelude.{◌≡◌, ◌^◌, ◌≤◌, Ok, ℤ, pos, ◌*ℤ◌, ◌≤ℤ◌, ◌<ℤ◌};
 ghost use Rattle.int_laws.specs.Powers.{power};
-ghost use Rattle.flex_interval.specs.Fraction.{Fraction, Within, scaled, times};
-ghost use Rattle.flex_interval.specs.Operations.{ratio_of, mul_of, cbrt_of};
+ghost use Rattle.flex_interval.specs.Fraction.{Fraction, Within, plus, scaled, times};
+ghost use Rattle.flex_interval.specs.Operations.{add_of, ratio_of, mul_of, cbrt_of};
 ghost use Rattle.flex_interval.specs.Roots.{EnclosesRoot};
 
 use crate::cube_root::cbrt;
 use crate::interval::Iv;
 use crate::product::mul;
 use crate::scale::ratio;
+use crate::sum::add;
 
 /// `a * n / m`, for an `a` and an `n` from 0 on whose product is small: never a fault, and from 0 on again.
 pub fn share(a: Iv, n: i128, m: i128) -> Iv
@@ -51,4 +52,18 @@ pub fn small_cbrt(a: Iv, s: u32) -> Iv
 {
     prove!(a.lo <= a.hi);
     cbrt(a, s).unwrap()
+}
+
+/// `a + b`, for an `a` and a `b` from 0 on that are small: never a fault.
+pub fn small_sum(a: Iv, b: Iv) -> Iv
+    requires a_lo { pos 0 ≤ℤ a.lo }
+    requires a_hi { a.hi ≤ℤ pos (2 ^ 124) }
+    requires b_lo { pos 0 ≤ℤ b.lo }
+    requires b_hi { b.hi ≤ℤ pos (2 ^ 124) }
+    ensures value { add_of a b ≡ Ok result }
+    ensures within { (x y : Fraction) → Within a x → Within b y → Within result (plus x y) }
+{
+    prove!(a.lo <= a.hi);
+    prove!(b.lo <= b.hi);
+    add(a, b).unwrap()
 }

@@ -15,7 +15,7 @@ mod square_root;
 mod sum;
 
 pub use best::best_root;
-pub use bounded::{share, small_cbrt, small_product};
+pub use bounded::{share, small_cbrt, small_product, small_sum};
 pub use cube_root::cbrt;
 pub use fault::{IvFault, Wide};
 pub use interval::{Iv, point};

@@ -4,6 +4,8 @@
 #[cfg(test)]
 mod cases;
 #[cfg(test)]
+mod factors;
+#[cfg(test)]
 mod loads;
 #[cfg(test)]
 mod makers;

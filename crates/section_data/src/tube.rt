@@ -6,7 +6,7 @@ ghost use Rattle.model_types.specs.Ranges.{MaterialInForm};
 ghost use Rattle.section_data.specs.Tube.{IsTube, IsHollow, inside_diameter as inside_of, wall_of, square_difference as square_difference_of, exact_area, exact_weight_of, weight_factor, weight_of};
 
 use angle_table::pi;
-use flex_interval::{Iv, add, point, share};
+use flex_interval::{Iv, point, share, small_sum};
 use model_types::{Material, Section};
 
 /// The inside diameter, in micrometres.
@@ -118,9 +118,7 @@ pub fn weight(area: Iv, s: &Section, m: &Material) -> Iv
 {
     let pipe = pipe_weight(area, m);
     let rest = extra_weight(s);
-    prove!(pipe.lo <= pipe.hi);
-    prove!(rest.lo <= rest.hi);
-    add(pipe, rest).unwrap()
+    small_sum(pipe, rest)
 }
 
 /// The weight of the pipe alone.

@@ -1,0 +1,58 @@
+-- Bends and tees of a text keep 1/h in range.
+use Rattle.std.proofs.Common.{◌*◌, ◌^◌, arith, ℤ, pos, ◌+ℤ◌, ◌*ℤ◌, ◌≤ℤ◌, ◌<ℤ◌}
+use Rattle.std.proofs.lemmas.Int.{ints}
+use Rattle.int_laws.proofs.Sums.{int_sums}
+use Rattle.int_laws.proofs.Products.{le_mul, mul_comm, mul_positive, square_nonnegative, product_most}
+use Rattle.sif_factors.specs.Inverse.{InverseInRange}
+
+-- a product by the upper end of an interval from 0 on, and that end's square
+pub product_of_most : (x lo hi a b : ℤ) → pos 0 ≤ℤ a → pos 0 ≤ℤ lo → lo ≤ℤ hi → x ≤ℤ a → hi ≤ℤ b → (x *ℤ hi) ≤ℤ (a *ℤ b)
+product_of_most x lo hi a b positive low ordered first second = product_most x hi a b positive (omega (arith, int_sums)) first second
+
+pub square_most : (lo hi a : ℤ) → pos 0 ≤ℤ lo → lo ≤ℤ hi → hi ≤ℤ a → (hi *ℤ hi) ≤ℤ (a *ℤ a)
+square_most lo hi a low ordered most = product_of_most hi lo hi a a (omega (arith, int_sums)) low ordered most most
+
+-- a wall times a number
+pub times_wall : (t n most : ℤ) → pos 100 ≤ℤ t → t ≤ℤ pos 200000 → pos 1 ≤ℤ n → n ≤ℤ most → (pos 0 <ℤ (n *ℤ t)) × ((n *ℤ t) ≤ℤ (most *ℤ pos 200000)) × ((n *ℤ pos 100) ≤ℤ (n *ℤ t))
+times_wall t n most low high one limit = (
+  mul_positive n t (omega (arith, int_sums)) (omega (arith, int_sums)),
+  product_most n t most (pos 200000) (omega (arith, int_sums)) (omega (arith, int_sums)) limit high,
+  omega (arith, int_sums, le_mul n (omega (arith, int_sums)) low, mul_comm n t, mul_comm n (pos 100)),
+)
+
+pub bend_range : (m t r : ℤ) → pos 0 <ℤ m → m ≤ℤ pos 2000000 → m ≤ℤ (pos 2 *ℤ r) → pos 100 ≤ℤ t → t ≤ℤ pos 200000 → pos 1000 ≤ℤ r → r ≤ℤ pos 15000000 →
+    InverseInRange (record { num = m *ℤ m; den = pos 4 *ℤ (t *ℤ r) })
+bend_range m t r positive high wide t_low t_high r_low r_high =
+    let wall = times_wall t r (pos 15000000) t_low t_high (omega (arith, int_sums)) r_high in
+    let square = product_most m m (pos 2000000) (pos 2000000) (omega (arith, int_sums)) (omega (arith, int_sums)) high high in
+    let turned = product_most m m (pos 2 *ℤ r) (pos 2000000) (omega (arith, ints)) (omega (arith, int_sums)) wide high in
+    record {
+      low = square_nonnegative m;
+      high = omega (arith, ints, square);
+      positive = omega (arith, ints, wall.0, mul_comm t r);
+      den_high = omega (arith, ints, wall.1, mul_comm t r);
+      ratio = omega (arith, ints, wall.2, turned, mul_comm t r);
+    }
+
+-- the mean diameter, or 500 times it, over a multiple of the wall
+pub tee_range : (m n t : ℤ) → pos 0 <ℤ m → m ≤ℤ pos 2000000 → pos 100 ≤ℤ t → t ≤ℤ pos 200000 → pos 2 ≤ℤ n → n ≤ℤ pos 8 → InverseInRange (record { num = m; den = n *ℤ t })
+tee_range m n t positive high t_low t_high n_low n_high =
+    let wall = times_wall t n (pos 8) t_low t_high (omega (arith, int_sums)) n_high in
+    record {
+      low = omega (arith, int_sums);
+      high = omega (arith, ints);
+      positive = wall.0;
+      den_high = omega (arith, ints, wall.1);
+      ratio = omega (arith, ints, wall.2);
+    }
+
+pub coefficient_range : (m c t : ℤ) → pos 0 <ℤ m → m ≤ℤ pos 2000000 → pos 100 ≤ℤ t → t ≤ℤ pos 200000 → pos 100 ≤ℤ c → c ≤ℤ pos 100000 → InverseInRange (record { num = pos 500 *ℤ m; den = c *ℤ t })
+coefficient_range m c t positive high t_low t_high c_low c_high =
+    let wall = times_wall t c (pos 100000) t_low t_high (omega (arith, int_sums)) c_high in
+    record {
+      low = omega (arith, ints);
+      high = omega (arith, ints);
+      positive = wall.0;
+      den_high = omega (arith, ints, wall.1);
+      ratio = omega (arith, ints, wall.2);
+    }
