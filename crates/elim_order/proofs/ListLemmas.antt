@@ -73,19 +73,6 @@ Contains-filter test (x ∷ xs) k = at (test x) refl (Contains-filter test xs k)
           ],
     )
 
--- a rising list goes up by one at least at each place
-rising-at_least : (xs : List ℕ) → IsRising xs → (i : ℕ) → i < length xs → i ≤ get_or xs i 0
-rising-at_least xs up zero lt = omega arith
-rising-at_least xs up (suc i) lt = omega (arith, up i (suc i) 0 (omega arith) lt, rising-at_least xs up i (omega arith))
-
--- so it has at most n numbers below n
-pub rising-length : (xs : List ℕ) (n : ℕ) → IsRising xs → ((k : ℕ) → Contains xs k → k < n) → length xs ≤ n
-rising-length xs n up below =
-    elim (cases_lt n (length xs)) [
-      | inl over ↦ (let in' = below (get_or xs n 0) (n, over, get_or_default xs n (get_or xs n 0) 0 over) in absurd (omega (arith, rising-at_least xs up n over)))
-      | inr le ↦ le
-    ]
-
 -- one of some lists is written
 pub list_of-here : {X : Type 0} (lists : List (List X)) (n : ℕ) (new : List X) → n < length lists → list_of (set lists n new) n ≡ new
 list_of-here lists n new lt = get_or-set_same lists n new [] lt

@@ -9,8 +9,8 @@ use Rattle.elim_order.specs.Graph.{eliminated, after, AreNeighbours}
 use Rattle.elim_order.specs.Order.{IsNarrowAt}
 use Rattle.elim_order.specs.Queue.{key_of, Queues}
 use Rattle.elim_order.specs.State.{AreNeighbourLists, told, IsGraph, EliminatesRound, StopsAt}
-use Rattle.elim_order.proofs.ListLemmas.{rising-length}
 use Rattle.elim_order.proofs.JoinLemmas.{IsGraph-eliminated}
+use Rattle.lists.proofs.PlaceLemmas.{length-rising}
 use Rattle.lists.proofs.UniqueLemmas.{decide_contains, rising_unique}
 use Rattle.elim_order.proofs.GraphLemmas.{lists_once, neighbours_of, narrow-append, narrow-after}
 
@@ -79,5 +79,5 @@ round_stops round i old cur queue at lt before many =
 -- a key is within a queue that has two places more than there are nodes
 pub key_small : (lists : List (List ℕ)) (n room : ℕ) → IsGraph lists → length lists + 2 < room → key_of lists n < room
 key_small lists n room g lt =
-    let few = rising-length (list_of lists n) (length lists) (g.rising n) (g.in_range n) in
+    let few = length-rising (list_of lists n) (length lists) (g.rising n) (g.in_range n) in
     omega arith
