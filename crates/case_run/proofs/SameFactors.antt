@@ -10,7 +10,7 @@ use Rattle.model_types.specs.declared.answers.Cause.{Cause}
 use Rattle.model_types.specs.declared.answers.Cause.TheVariants as causes
 use Rattle.sym_blocks.specs.Matrix.{Matrix}
 use Rattle.cholesky_laws.specs.Recurrence.{products, remainder, next_column, columns_below, cholesky, left_after, pivot}
-use Rattle.cholesky_laws.specs.Elimination.{is_in_subtree}
+use Rattle.elimination.specs.Elimination.{is_in_subtree}
 use Rattle.cholesky_laws.specs.Breakdown.{squares, Passes, BreaksAtPivot, BreaksWide, HasLargeEntry, HasWideRow}
 use Rattle.factor.specs.State.{matrix_of}
 use Rattle.factor.specs.Scalar.{IsFactorOf, IsBreakdown}

@@ -10,7 +10,7 @@ use Rattle.flex_num.proofs.RootLemmas.{root_of-is}
 use Rattle.int_laws.specs.Sums.{sum_below}
 use Rattle.cholesky_laws.specs.Recurrence.{cholesky, left_after, pivot, freedom_at, scaled}
 use Rattle.cholesky_laws.proofs.RecurrenceLemmas.{cases_pivot, cholesky-broken, cholesky-diagonal, cholesky-below}
-use Rattle.cholesky_laws.specs.Elimination.{parent_of, is_in_subtree}
+use Rattle.elimination.specs.Elimination.{parent_of, is_in_subtree}
 use Rattle.cholesky_laws.specs.Breakdown.{squares}
 use Rattle.int_laws.proofs.SumLaws.{sum_below-nonnegative}
 use Rattle.cholesky_laws.proofs.SumsLemmas.{sum_below-by_six, sum_below-at_most, sum_below-term}

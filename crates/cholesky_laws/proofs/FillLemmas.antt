@@ -8,28 +8,11 @@ use Rattle.int_laws.proofs.Sums.{int_sums}
 use Rattle.int_laws.proofs.Products.{mul_comm, zero-mul}
 use Rattle.int_laws.proofs.SumLaws.{sum_below-zero, sum_below-same}
 use Rattle.cholesky_laws.specs.Recurrence.{cholesky, left_after}
-use Rattle.cholesky_laws.specs.Elimination.{Joined, IsLaterNeighbour, IsParent, IsTree, parent_of, met_from, is_in_subtree}
+use Rattle.elimination.specs.Elimination.{IsLaterNeighbour, IsParent, IsTree, parent_of, met_from, is_in_subtree}
+use Rattle.elimination.proofs.JoinedLemmas.{later_from_linked, later_closed}
 use Rattle.cholesky_laws.specs.Fill.{IsOnPattern}
 use Rattle.cholesky_laws.proofs.BoundLemmas.{cholesky-zero}
 use Rattle.cholesky_laws.proofs.SubtreeLemmas.{picked, names, met_from-late, is_in_subtree-own}
-
--- ---- the graph
--- neighbours stay neighbours
-joined_later : (linked : ℕ → ℕ → Type 0) (t m p q : ℕ) → Joined linked t p q → Joined linked (t + m) p q
-joined_later linked t zero p q h = subst (λ (x : ℕ). Joined linked x p q) (let e : t ≡ t + 0 = omega arith in e) h
-joined_later linked t (suc m) p q h =
-    subst (λ (x : ℕ). Joined linked x p q) (let e : suc (t + m) ≡ t + suc m = omega arith in e) (inl (joined_later linked t m p q h))
-
-joined_by : (linked : ℕ → ℕ → Type 0) (t u p q : ℕ) → t ≤ u → Joined linked t p q → Joined linked u p q
-joined_by linked t u p q le h = subst (λ (x : ℕ). Joined linked x p q) (let e : t + (u - t) ≡ u = omega arith in e) (joined_later linked t (u - t) p q h)
-
--- linked nodes are neighbours when the first is eliminated
-pub later_from_linked : (linked : ℕ → ℕ → Type 0) (p q : ℕ) → p < q → linked p q → IsLaterNeighbour linked p q
-later_from_linked linked p q lt h = (lt, joined_by linked 0 p p q (omega arith) h)
-
--- two later neighbours of a node are neighbours when the first of them is eliminated
-pub later_closed : (linked : ℕ → ℕ → Type 0) (k p q : ℕ) → p < q → IsLaterNeighbour linked k p → IsLaterNeighbour linked k q → IsLaterNeighbour linked p q
-later_closed linked k p q lt (kp, jp) (kq, jq) = (lt, joined_by linked (suc k) p p q (omega arith) (inr (kp, kq, jp, jq)))
 
 -- ---- where the factor has entries
 cases_zero : (z : ℤ) → (z ≡ pos 0) ⊎ (z ≡ pos 0 → ⊥)
@@ -42,17 +25,17 @@ product_none x y (inl e) = ap (λ z. z *ℤ y) e ∙ zero-mul y
 product_none x y (inr e) = ap (λ z. x *ℤ z) e ∙ mul_comm x (pos 0) ∙ zero-mul x
 
 -- column k has nothing in the rows of nodes that are no later neighbours of its own
-abbrev pub HasNoFill : (ℕ → ℕ → ℤ) → (ℕ → ℕ → Type 0) → ℕ → Type 0
-HasNoFill a linked k = (i : ℕ) → k / 6 < i / 6 → (IsLaterNeighbour linked (k / 6) (i / 6) → ⊥) → cholesky a i k ≡ pos 0
+abbrev pub HasNoFill : (ℕ → ℕ → ℤ) → (ℕ → ℕ → Type 0) → ℕ → ℕ → Type 0
+HasNoFill a linked size k = (i : ℕ) → i < 6 * size → k / 6 < i / 6 → (IsLaterNeighbour linked (k / 6) (i / 6) → ⊥) → cholesky a i k ≡ pos 0
 
 -- a column before gives nothing to such a row
-term_none : (a : ℕ → ℕ → ℤ) (linked : ℕ → ℕ → Type 0) (k m i : ℕ) → m < k → HasNoFill a linked m → k / 6 < i / 6 → (IsLaterNeighbour linked (k / 6) (i / 6) → ⊥) → cholesky a i m *ℤ cholesky a k m ≡ pos 0
-term_none a linked k m i lt before past absent =
+term_none : (a : ℕ → ℕ → ℤ) (linked : ℕ → ℕ → Type 0) (size k m i : ℕ) → m < k → HasNoFill a linked size m → i < 6 * size → k / 6 < i / 6 → (IsLaterNeighbour linked (k / 6) (i / 6) → ⊥) → cholesky a i m *ℤ cholesky a k m ≡ pos 0
+term_none a linked size k m i lt before in' past absent =
     elim (cases_lt (m / 6) (k / 6)) [
       | inr own ↦
           (let same : m / 6 ≡ k / 6 = omega arith in
           product_none (cholesky a i m) (cholesky a k m)
-          (inl (before i (omega arith) (λ h. absent (subst (λ (x : ℕ). IsLaterNeighbour linked x (i / 6)) same h)))))
+          (inl (before i in' (omega arith) (λ h. absent (subst (λ (x : ℕ). IsLaterNeighbour linked x (i / 6)) same h)))))
       | inl earlier ↦
           elim (cases_zero (cholesky a i m)) [
             | inl none ↦ product_none (cholesky a i m) (cholesky a k m) (inl none)
@@ -60,32 +43,32 @@ term_none a linked k m i lt before past absent =
                 elim (cases_zero (cholesky a k m)) [
                   | inl none ↦ product_none (cholesky a i m) (cholesky a k m) (inr none)
                   | inr some' ↦
-                      absurd (some (before i (omega arith) (λ reaches.
-                      some' (before k earlier (λ reaches'. absent (later_closed linked (m / 6) (k / 6) (i / 6) past reaches' reaches))))))
+                      absurd (some (before i in' (omega arith) (λ reaches.
+                      some' (before k (omega arith) earlier (λ reaches'. absent (later_closed linked (m / 6) (k / 6) (i / 6) past reaches' reaches))))))
                 ]
           ]
     ]
 
-no_fill_next : (a : ℕ → ℕ → ℤ) (linked : ℕ → ℕ → Type 0) (k : ℕ) → IsOnPattern a linked → ((m : ℕ) → m < k → HasNoFill a linked m) → HasNoFill a linked k
+no_fill_next : (a : ℕ → ℕ → ℤ) (linked : ℕ → ℕ → Type 0) (size k : ℕ) → IsOnPattern a linked size → ((m : ℕ) → m < k → HasNoFill a linked size m) → HasNoFill a linked size k
 unfolding left_after
-no_fill_next a linked k on before i past absent =
-    let own = on i k past (λ h. absent (later_from_linked linked (k / 6) (i / 6) past h)) in
-    let taken = sum_below-zero k (λ m. cholesky a i m *ℤ cholesky a k m) (λ m lt. term_none a linked k m i lt (before m lt) past absent) in
+no_fill_next a linked size k on before i in' past absent =
+    let own = on i k in' past (λ h. absent (later_from_linked linked (k / 6) (i / 6) past h)) in
+    let taken = sum_below-zero k (λ m. cholesky a i m *ℤ cholesky a k m) (λ m lt. term_none a linked size k m i lt (before m lt) in' past absent) in
     let none : left_after a k i k ≡ pos 0 = omega (arith, int_sums) in
     cholesky-zero a i k (omega arith) none
 
-no_fill_below : (a : ℕ → ℕ → ℤ) (linked : ℕ → ℕ → Type 0) → IsOnPattern a linked → (n k : ℕ) → k < n → HasNoFill a linked k
-no_fill_below a linked on zero k lt = absurd (omega arith)
-no_fill_below a linked on (suc n) k lt =
+no_fill_below : (a : ℕ → ℕ → ℤ) (linked : ℕ → ℕ → Type 0) (size : ℕ) → IsOnPattern a linked size → (n k : ℕ) → k < n → HasNoFill a linked size k
+no_fill_below a linked size on zero k lt = absurd (omega arith)
+no_fill_below a linked size on (suc n) k lt =
     elim (cases_lt k n) [
-      | inl before ↦ no_fill_below a linked on n k before
-      | inr here ↦ no_fill_next a linked k on (λ m ml. no_fill_below a linked on n m (omega arith))
+      | inl before ↦ no_fill_below a linked size on n k before
+      | inr here ↦ no_fill_next a linked size k on (λ m ml. no_fill_below a linked size on n m (omega arith))
     ]
 
 -- the factor of a matrix on a graph's pattern has entries in a column only in its own node's rows and in those of the
 -- nodes that are its neighbours when it is eliminated
-pub no_fill : (a : ℕ → ℕ → ℤ) (linked : ℕ → ℕ → Type 0) → IsOnPattern a linked → (k : ℕ) → HasNoFill a linked k
-no_fill a linked on k = no_fill_below a linked on (suc k) k (omega arith)
+pub no_fill : (a : ℕ → ℕ → ℤ) (linked : ℕ → ℕ → Type 0) (size : ℕ) → IsOnPattern a linked size → (k : ℕ) → HasNoFill a linked size k
+no_fill a linked size on k = no_fill_below a linked size on (suc k) k (omega arith)
 
 -- ---- the tree
 -- a parent is met next
@@ -141,7 +124,7 @@ later_in_subtree linked size parents tree n q in' h =
     ap (names q) (way_up linked size parents tree q n q in' (omega arith) h) ∙ eq-eqb q q refl
 
 -- a column depends on the columns of its node's subtree alone
-pub left_by_subtree : (a : ℕ → ℕ → ℤ) (linked : ℕ → ℕ → Type 0) (size : ℕ) (parents : List (Option ℕ)) → IsOnPattern a linked → IsTree linked size parents → (i j : ℕ) → j < 6 * size → left_after a j i j ≡ a i j -ℤ sum_below j (λ k. picked (is_in_subtree parents (j / 6) (k / 6)) (cholesky a i k *ℤ cholesky a j k))
+pub left_by_subtree : (a : ℕ → ℕ → ℤ) (linked : ℕ → ℕ → Type 0) (size : ℕ) (parents : List (Option ℕ)) → IsOnPattern a linked size → IsTree linked size parents → (i j : ℕ) → j < 6 * size → left_after a j i j ≡ a i j -ℤ sum_below j (λ k. picked (is_in_subtree parents (j / 6) (k / 6)) (cholesky a i k *ℤ cholesky a j k))
 unfolding left_after
 left_by_subtree a linked size parents on tree i j in' =
     ap (λ z. a i j -ℤ z) (sum_below-same j _ _ (λ k lt. term k lt))
@@ -150,7 +133,7 @@ left_by_subtree a linked size parents on tree i j in' =
     at_test true k is lt = refl
     at_test false k is lt =
         product_none (cholesky a i k) (cholesky a j k)
-        (inr (no_fill a linked on k j lt (λ h. false≢true (sym is ∙ later_in_subtree linked size parents tree (k / 6) (j / 6) (omega arith) h))))
+        (inr (no_fill a linked size on k j in' lt (λ h. false≢true (sym is ∙ later_in_subtree linked size parents tree (k / 6) (j / 6) (omega arith) h))))
 
     term : (k : ℕ) → k < j → cholesky a i k *ℤ cholesky a j k ≡ picked (is_in_subtree parents (j / 6) (k / 6)) (cholesky a i k *ℤ cholesky a j k)
     term k lt =

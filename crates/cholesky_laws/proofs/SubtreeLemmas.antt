@@ -6,7 +6,7 @@ use Rattle.std.proofs.lemmas.Bool.{cases_eq, eq-eqb, ne_eqb}
 use Rattle.int_laws.proofs.Sums.{int_sums}
 use Rattle.int_laws.specs.Sums.{sum_below}
 use Rattle.cholesky_laws.specs.Recurrence.{cholesky}
-use Rattle.cholesky_laws.specs.Elimination.{parent_of, met_from, is_in_subtree}
+use Rattle.elimination.specs.Elimination.{parent_of, met_from, is_in_subtree}
 use Rattle.cholesky_laws.specs.Breakdown.{squares}
 use Rattle.int_laws.proofs.SumLaws.{sum_below-same, sum_below-zero, sum_below-add}
 use Rattle.cholesky_laws.proofs.SumsLemmas.{sum_below-cut, sum_below-by_six}

@@ -3,7 +3,7 @@ use Rattle.std.specs.Prelude.{ℕ, ◌+◌, ◌*◌, ◌/◌, ◌^◌, ◌<◌, 
 use Rattle.std.specs.Int.RustNames.{unsigned_abs}
 use Rattle.int_laws.specs.Sums.{sum_below}
 use Rattle.cholesky_laws.specs.Recurrence.{cholesky, pivot}
-use Rattle.cholesky_laws.specs.Elimination.{is_in_subtree}
+use Rattle.elimination.specs.Elimination.{is_in_subtree}
 
 -- the sum of the squares of row i's entries in the columns of node n's subtree
 unfoldable pub squares : (ℕ → ℕ → ℤ) → List (Option ℕ) → ℕ → ℕ → ℤ

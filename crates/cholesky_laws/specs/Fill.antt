@@ -1,6 +1,6 @@
 -- Matrices on the pattern of a graph, six rows and columns for each node.
-use Rattle.std.specs.Prelude.{◌≡◌, ℕ, ◌/◌, ◌<◌, ℤ, pos}
+use Rattle.std.specs.Prelude.{◌≡◌, ℕ, ◌*◌, ◌/◌, ◌<◌, ℤ, pos}
 
--- below the diagonal blocks, a has entries only where nodes are linked
-abbrev pub IsOnPattern : (ℕ → ℕ → ℤ) → (ℕ → ℕ → Type 0) → Type 0
-IsOnPattern a linked = (i j : ℕ) → j / 6 < i / 6 → (linked (j / 6) (i / 6) → ⊥) → a i j ≡ pos 0
+-- below the diagonal blocks, a has entries in the rows of so many nodes only where nodes are linked
+abbrev pub IsOnPattern : (ℕ → ℕ → ℤ) → (ℕ → ℕ → Type 0) → ℕ → Type 0
+IsOnPattern a linked size = (i j : ℕ) → i < 6 * size → j / 6 < i / 6 → (linked (j / 6) (i / 6) → ⊥) → a i j ≡ pos 0

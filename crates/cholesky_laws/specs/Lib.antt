@@ -1,4 +1,3 @@
 pub mod Recurrence
-pub mod Elimination
 pub mod Breakdown
 pub mod Fill

@@ -11,7 +11,7 @@ use Rattle.int_laws.proofs.SumLaws.{sum_below-nonnegative}
 use Rattle.lists.specs.Rising.{IsRising}
 use Rattle.lists.specs.Order.{place_of}
 use Rattle.lists.proofs.PlaceLemmas.{place_of-at}
-use Rattle.cholesky_laws.specs.Elimination.{parent_of}
+use Rattle.elimination.specs.Elimination.{parent_of}
 use Rattle.cholesky_laws.specs.Breakdown.{Passes, squares}
 use Rattle.cholesky_laws.proofs.SumsLemmas.{sum_below-at_most}
 use Rattle.cholesky_laws.proofs.BoundLemmas.{squares-nonnegative}

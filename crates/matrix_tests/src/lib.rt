@@ -10,4 +10,6 @@ mod factors;
 #[cfg(test)]
 mod makers;
 #[cfg(test)]
+mod orders;
+#[cfg(test)]
 mod refinement;

@@ -1,0 +1,10 @@
+pub mod ListLemmas
+pub mod JoinLemmas
+pub mod GraphLemmas
+pub mod QueueLemmas
+pub mod RoundLemmas
+pub mod TakeLemmas
+pub mod MarkLemmas
+pub mod ReachedLemmas
+pub mod StartLemmas
+pub mod DeterminedLemmas

@@ -1,0 +1,5 @@
+pub mod Graph
+pub mod Order
+pub mod Queue
+pub mod State
+pub mod Determined

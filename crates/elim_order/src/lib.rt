@@ -1,0 +1,12 @@
+//! The order in which the nodes of a graph are eliminated: rounds of nodes of least degree.
+#![tactic(auto)]
+
+mod fault;
+mod graph;
+mod laws;
+mod queue;
+mod rounds;
+
+pub use fault::OrderFault;
+pub use laws::orders_are_determined;
+pub use rounds::order;

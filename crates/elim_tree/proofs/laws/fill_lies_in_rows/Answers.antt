@@ -1,0 +1,16 @@
+use Rattle.elim_order.specs.Graph.{links}
+use Rattle.elim_tree.specs.Tree.{placed}
+use Rattle.elim_tree.proofs.ShapeLemmas.{parents_are, tree_shape, parents_above}
+use Rattle.elim_tree.proofs.HandLemmas.{hands_turn}
+use Rattle.elim_tree.proofs.PlacedLemmas.{higher_more}
+use Rattle.elim_tree.proofs.LawLemmas.{fill_in_rows, stiffness_on_pattern}
+use Rattle.elim_tree.proofs.laws.fill_lies_in_rows.Goals as goal
+
+pub returns-clause-parents : goal.returns-clause-parents
+returns-clause-parents c pairs order t is = parents_are (placed (links pairs) order) order t is
+
+pub returns-clause-fill : goal.returns-clause-fill
+returns-clause-fill c = fill_in_rows
+
+pub returns-clause-stiffness : goal.returns-clause-stiffness
+returns-clause-stiffness c = stiffness_on_pattern

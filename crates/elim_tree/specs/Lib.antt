@@ -1,0 +1,4 @@
+pub mod Fronts
+pub mod Tree
+pub mod Parts
+pub mod Laws
