@@ -1,12 +1,14 @@
 -- A member as a pair of a stiffness and a shape vector, and what it encloses.
-use Rattle.std.specs.Prelude.{◌≡◌, ◌^◌, List, [], ◌∷◌, slice_index_or, pos, ◌≤ℤ◌, ◌<ℤ◌}
+use Rattle.std.specs.Prelude.{◌≡◌, ◌^◌, List, [], ◌∷◌, slice_index_or, pos, ◌≤ℤ◌, ◌<ℤ◌, ◌&&◌, Result, Ok, Err, if◌then◌else◌}
 use Rattle.flex_interval.specs.Ends.{Ends}
+use Rattle.flex_interval.specs.declared.fault.Wide.{Wide}
 use Rattle.flex_interval.specs.Fraction.{Fraction, Within, negated}
 use Rattle.flex_interval.specs.Operations.{neg_of}
 use Rattle.member_set.specs.Members.{nothing}
 use Rattle.member_set.specs.declared.members.Member.{Member}
 use Rattle.model_types.specs.declared.records.Element.{Element}
 use Rattle.member_pairs.specs.Axes.{Axis, x_axis, y_axis, z_axis, Motion, translation, rotation, End, from_end, to_end, place_of}
+use Rattle.member_pairs.specs.Limits.{is_stiffness, is_moderate}
 use Rattle.member_pairs.specs.Vectors.{Exact, part}
 
 -- the twelve shape numbers: a translation that is opposite at FROM, and a rotation for each end
@@ -29,6 +31,11 @@ EnclosesShape w exact = (p : End) (m : Motion) (i : Axis) → Within (slice_inde
 -- an element's member: its stiffness, translation and rotations
 abbrev pub member : Element → Ends → List Ends → List Ends → List Ends → Member
 member e kappa v from to = record { n1 = e.from.0; n2 = e.to.0; kappa = kappa; w = shape_numbers v from to }
+
+-- the same, where its numbers are in their limits
+abbrev pub limited_member : Element → Ends → List Ends → List Ends → List Ends → Result Member Wide
+limited_member e kappa v from to =
+    if is_stiffness kappa && (is_moderate v && (is_moderate from && is_moderate to)) then Ok (member e kappa v from to) else Err (record {})
 
 -- the exact stiffness and shape vector lie in the member
 pub record EnclosesMember (m : Member) (kappa : Fraction) (w : End → Motion → Axis → Fraction) : Type 0 where

@@ -1,8 +1,9 @@
 -- Vectors by their three parts.
-use Rattle.std.specs.Prelude.{List, [], ◌∷◌, slice_index_or, pos, ◌-ℤ◌, ◌≤ℤ◌, ◌<ℤ◌}
+use Rattle.std.specs.Prelude.{List, [], ◌∷◌, slice_index_or, pos, ◌-ℤ◌, ◌≤ℤ◌, ◌<ℤ◌, Result, Ok}
 use Rattle.flex_interval.specs.Ends.{Ends}
-use Rattle.flex_interval.specs.Fraction.{Fraction, Within, whole, negated}
-use Rattle.flex_interval.specs.Operations.{neg_of}
+use Rattle.flex_interval.specs.declared.fault.IvFault.{IvFault}
+use Rattle.flex_interval.specs.Fraction.{Fraction, Within, whole, negated, times, plus, minus}
+use Rattle.flex_interval.specs.Operations.{and_then, neg_of, add_of, sub_of, mul_of}
 use Rattle.member_set.specs.Members.{nothing}
 use Rattle.model_types.specs.declared.records.Node.{Node}
 use Rattle.model_types.specs.Ranges.{IsIn, of_size}
@@ -49,6 +50,22 @@ crossed t z_axis x_axis = t y_axis
 crossed t z_axis y_axis = negated (t x_axis)
 crossed t z_axis z_axis = whole (pos 0)
 
+-- the cross product, in 2^-56 for factors in 2^-56
+abbrev pub cross : Exact → Exact → Exact
+cross u v x_axis = minus (times (u y_axis) (v z_axis) 56) (times (u z_axis) (v y_axis) 56)
+cross u v y_axis = minus (times (u z_axis) (v x_axis) 56) (times (u x_axis) (v z_axis) 56)
+cross u v z_axis = minus (times (u x_axis) (v y_axis) 56) (times (u y_axis) (v x_axis) 56)
+
+-- x v, in 2^-56 for factors in 2^-56
+abbrev pub stretched : Fraction → Exact → Exact
+stretched x v i = times x (v i) 56
+
+abbrev pub total : Exact → Exact → Exact
+total u v i = plus (u i) (v i)
+
+abbrev pub difference : Exact → Exact → Exact
+difference u v i = minus (u i) (v i)
+
 -- ---- vectors of intervals: lists of three
 abbrev pub part : List Ends → Axis → Ends
 part v i = slice_index_or v (axis_number i) nothing
@@ -67,6 +84,34 @@ abbrev pub crossed_of : List Ends → Axis → List Ends
 crossed_of t x_axis = vector_of nothing (part t z_axis) (neg_of (part t y_axis))
 crossed_of t y_axis = vector_of (neg_of (part t z_axis)) nothing (part t x_axis)
 crossed_of t z_axis = vector_of (part t y_axis) (neg_of (part t x_axis)) nothing
+
+-- a b - c d
+unfoldable pub product_difference_of : Ends → Ends → Ends → Ends → Result Ends IvFault
+product_difference_of a b c d = and_then (mul_of a b 56) (λ p. and_then (mul_of c d 56) (λ q. sub_of p q))
+
+-- the cross product
+unfoldable pub cross_of : List Ends → List Ends → Result (List Ends) IvFault
+cross_of u v =
+    and_then (product_difference_of (part u y_axis) (part v z_axis) (part u z_axis) (part v y_axis)) (λ x.
+    and_then (product_difference_of (part u z_axis) (part v x_axis) (part u x_axis) (part v z_axis)) (λ y.
+    and_then (product_difference_of (part u x_axis) (part v y_axis) (part u y_axis) (part v x_axis)) (λ z.
+    Ok (vector_of x y z))))
+
+-- x v
+unfoldable pub stretched_of : Ends → List Ends → Result (List Ends) IvFault
+stretched_of x v =
+    and_then (mul_of x (part v x_axis) 56) (λ a. and_then (mul_of x (part v y_axis) 56) (λ b. and_then (mul_of x (part v z_axis) 56) (λ c.
+    Ok (vector_of a b c))))
+
+unfoldable pub total_of : List Ends → List Ends → Result (List Ends) IvFault
+total_of u v =
+    and_then (add_of (part u x_axis) (part v x_axis)) (λ x. and_then (add_of (part u y_axis) (part v y_axis)) (λ y. and_then (add_of (part u z_axis) (part v z_axis)) (λ z.
+    Ok (vector_of x y z))))
+
+unfoldable pub difference_of : List Ends → List Ends → Result (List Ends) IvFault
+difference_of u v =
+    and_then (sub_of (part u x_axis) (part v x_axis)) (λ x. and_then (sub_of (part u y_axis) (part v y_axis)) (λ y. and_then (sub_of (part u z_axis) (part v z_axis)) (λ z.
+    Ok (vector_of x y z))))
 
 -- each of the three parts is there, whatever would stand for a missing one, and is within its interval
 pub record EnclosesVector (v : List Ends) (exact : Exact) : Type 0 where

@@ -12,7 +12,9 @@ mod way;
 pub use chord::{half, length, tangent};
 pub use element::ElementMembers;
 pub use limits::{is_moderate, is_stiffness};
-pub use pair::member;
+pub use pair::{limited_member, member};
 pub use tube::{Tube, divisor, load, round_tube};
-pub use vector::{crossed_x, crossed_y, crossed_z, negative, zero};
+pub use vector::{
+    cross, crossed_x, crossed_y, crossed_z, difference, negative, stretched, total, zero,
+};
 pub use way::{Way, square, way_between};

@@ -1,0 +1,5 @@
+pub mod Arcs
+pub mod ExactBend
+pub mod Stages
+pub mod Rounded
+pub mod Bend
