@@ -14,7 +14,8 @@ use Rattle.model_types.specs.declared.records.Element.{Element}
 use Rattle.model_types.specs.declared.records.Material.{Material}
 use Rattle.model_types.specs.declared.records.Node.{Node}
 use Rattle.model_types.specs.declared.records.Section.{Section}
-use Rattle.model_types.specs.Rules.{IsModel, KeepsElement}
+use Rattle.model_types.specs.declared.records.Record.TheVariants as record_of
+use Rattle.model_types.specs.Rules.{IsModel, Keeps}
 use Rattle.pipe_element.specs.ExactStraight.{Tube}
 use Rattle.pipe_element.specs.Span.{square_of}
 use Rattle.pipe_element.specs.Vectors.{way_of, parts_of}
@@ -135,8 +136,8 @@ members-read m elements n e r same inside is value =
 pub members-sound : (m : Lists) → IsModel m → (n : ℕ) → n < length m.elements → (more : List Member) → members_of m (element_at m n) ≡ Ok more → All (IsSound (length m.nodes)) more
 members-sound m model n inside more is =
     let e = element_at m n in
-    let keeps : KeepsElement m.nodes m.sections e = model.rules.elements n no_element inside in
-    straight-sound e (from_of m e) (to_of m e) (section_of m e) (material_of m (section_of m e)) more (length m.nodes) keeps.from keeps.to is
+    let keeps : Keeps m (record_of.Element e) = model.kept.elements n no_element inside in
+    straight-sound e (from_of m e) (to_of m e) (section_of m e) (material_of m (section_of m e)) more (length m.nodes) keeps.known.0 keeps.known.1.0 is
 
 pub members-count : (m : Lists) (n : ℕ) (more : List Member) → members_of m (element_at m n) ≡ Ok more → length more ≡ 8
 members-count m n more is =

@@ -1,7 +1,8 @@
 ghost use Rattle.std.specs.Prelude.{◌≡◌, ◌*◌, ◌<◌, ◌≤◌, length, All, IfOk, Ok, Err};
 ghost use Rattle.std.specs.List.{slice_index_or};
 ghost use Rattle.model_types.specs.Ranges.{NodeInForm, MaterialInForm};
-ghost use Rattle.model_types.specs.Rules.{KeepsElement};
+ghost use Rattle.model_types.specs.Rules.{Keeps};
+ghost use Rattle.model_types.specs.declared.records.Record.TheVariants as record_of;
 ghost use Rattle.section_data.specs.Tube.{IsTube};
 ghost use Rattle.structure.specs.Elements.{members_of, material_of, no_node, no_section};
 ghost use Rattle.structure.specs.Enclosure.{EnclosesElement};
@@ -17,7 +18,7 @@ use std::alloc::Global;
 
 /// The members of an element of a model: `Wide` where they leave their limits.
 pub fn element_members(model: &Model, element: &Element) -> Result<[Member; 8], Wide>
-    requires { KeepsElement model.now.nodes model.now.sections element.now }
+    requires { Keeps model.now (record_of.Element element.now) }
     ensures value { result ≡ members_of model.now element.now }
     ensures encloses { EnclosesElement model.now element.now }
 {
