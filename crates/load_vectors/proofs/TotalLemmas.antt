@@ -15,7 +15,6 @@ use Rattle.member_set.proofs.Fractions.{sum_within, within-moved}
 use Rattle.member_set.proofs.Turns.{in_turn-next}
 use Rattle.model_types.specs.Lists.{Lists}
 use Rattle.model_types.specs.declared.records.Record.TheVariants as record_of
-use Rattle.model_types.specs.Kinds.{force_kind}
 use Rattle.model_types.specs.Rules.{IsModel, Keeps}
 use Rattle.std.proofs.lemmas.List.Elements.{All-get_or}
 use Rattle.model_types.specs.declared.records.Force.{Force}
@@ -68,7 +67,7 @@ same_total m case row n e few off t =
 -- ---- where a force acts
 -- a model's force is on one of its nodes, and one of 4000
 pub few_forces : (m : Lists) (n : ℕ) → IsModel m → n < length m.forces → n < 4000
-few_forces m n model inside = let few : length m.forces ≤ 4000 = model.rules.limits force_kind in omega (arith, few, inside)
+few_forces m n model inside = let few = model.few.forces in omega (arith, few, inside)
 
 pub force_kept : (m : Lists) (n : ℕ) (f : Force) → IsModel m → n < length m.forces → f ≡ get_or m.forces n no_force → Keeps m (record_of.Force f)
 force_kept m n f model inside is = rw is (All-get_or (λ x. Keeps m (record_of.Force x)) m.forces n no_force inside model.kept.forces)

@@ -1,5 +1,5 @@
 -- A model's canonical text is read as the model.
-use Rattle.std.proofs.Common.{◌≡◌, ℕ, ◌+◌, ◌<◌, ◌≤◌, ◌==◌, true, false, not, List, [], ◌∷◌, ◌++◌, map, flat_map, take, length, length-append, get_or, slice_get, Some, Result, Ok, Err, IfOk, codes, refl, sym, ap, subst, ◌∙◌, append_assoc, append-nil, arith}
+use Rattle.std.proofs.Common.{◌≡◌, ℕ, ◌+◌, ◌<◌, ◌≤◌, ◌==◌, true, false, List, [], ◌∷◌, ◌++◌, flat_map, take, length, length-append, slice_get, Some, Result, Ok, Err, IfOk, codes, refl, sym, ap, subst, ◌∙◌, append_assoc, append-nil, arith}
 use Rattle.std.proofs.Math.Seq.{take-length}
 use Rattle.std.proofs.lemmas.Bool.{cond-false, ne_eqb, not_from_true}
 use Rattle.std.proofs.lemmas.List.{get_or_at, take_more}

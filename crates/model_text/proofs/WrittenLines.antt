@@ -1,7 +1,6 @@
 -- The lines of records are read one after the other.
-use Rattle.std.proofs.Common.{◌≡◌, ℕ, ◌+◌, ◌==◌, true, false, List, [], ◌∷◌, ◌++◌, length, length-append, None, Ok, Err, refl, sym, ap, subst, ◌∙◌, append_assoc, append-nil, arith}
+use Rattle.std.proofs.Common.{◌≡◌, ℕ, ◌+◌, ◌==◌, true, false, List, ◌++◌, length, None, Ok, Err, refl, ap, ◌∙◌}
 use Rattle.std.proofs.lemmas.Bool.{cond-true, cond-false}
-use Rattle.std.proofs.lemmas.List.{get_or_at}
 use Rattle.std.specs.List.{list_all, join_with_byte}
 use Rattle.text_words.specs.Fields.{line, lines}
 use Rattle.model_types.specs.declared.records.Record.{Record}

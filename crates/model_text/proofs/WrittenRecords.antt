@@ -12,7 +12,7 @@ use Rattle.model_types.specs.declared.records.RestraintKind.TheVariants.{Anchor,
 use Rattle.model_types.specs.declared.records.Record.{Record}
 use Rattle.model_types.specs.declared.records.Record.TheVariants as record_of
 use Rattle.model_types.specs.declared.ids.Space.TheVariants as space_of
-use Rattle.model_types.specs.Lists.{Lists, added, names_in}
+use Rattle.model_types.specs.Lists.{Lists, names_in}
 use Rattle.model_types.specs.Ranges.{KindInForm}
 use Rattle.model_types.specs.Kinds.{Kind, material_kind, section_kind, node_kind, element_kind, restraint_kind, case_kind, force_kind, Of, as_record, before}
 use Rattle.model_types.specs.Rules.{Keeps, IsModel}

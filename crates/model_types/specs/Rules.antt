@@ -4,7 +4,7 @@ use Rattle.model_types.specs.declared.records.Section.{Section}
 use Rattle.model_types.specs.declared.records.Node.{Node}
 use Rattle.model_types.specs.declared.records.Record.{Record}
 use Rattle.model_types.specs.declared.records.Record.TheVariants as record_of
-use Rattle.model_types.specs.Kinds.{Kind, Of, list, as_record, kind_of, count, most, is_keyed, key, keys, refs, AreThere, before}
+use Rattle.model_types.specs.Kinds.{Kind, material_kind, section_kind, node_kind, element_kind, restraint_kind, case_kind, force_kind, Of, list, as_record, kind_of, count, most, is_keyed, key, keys, refs, AreThere, before}
 use Rattle.model_types.specs.Lists.{Lists, no_records, other_records}
 use Rattle.model_types.specs.Ranges.{InForm}
 
@@ -70,8 +70,19 @@ pub record AllKeep (m : Lists) : Type 0 where
   pub cases : All (λ r. Keeps m (record_of.Case r)) m.cases
   pub forces : All (λ r. Keeps m (record_of.Force r)) m.forces
 
--- a model keeps the rules and has a node, and so each record keeps its rule among all
+-- no kind has more records than it may
+pub record KeepsLimits (m : Lists) : Type 0 where
+  pub materials : length m.materials ≤ most material_kind
+  pub sections : length m.sections ≤ most section_kind
+  pub nodes : length m.nodes ≤ most node_kind
+  pub elements : length m.elements ≤ most element_kind
+  pub restraints : length m.restraints ≤ most restraint_kind
+  pub cases : length m.cases ≤ most case_kind
+  pub forces : length m.forces ≤ most force_kind
+
+-- a model keeps the rules and has a node, and so each record keeps its rule among all, and no list is too long
 pub record IsModel (m : Lists) : Type 0 where
   pub rules : KeepsRules m
   pub some_node : 0 < length m.nodes
   pub kept : AllKeep m
+  pub few : KeepsLimits m

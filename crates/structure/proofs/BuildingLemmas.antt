@@ -9,9 +9,7 @@ use Rattle.member_set.specs.Members.{no_member}
 use Rattle.model_types.specs.Lists.{Lists}
 use Rattle.model_types.specs.Ranges.{IsStiffness, KindInForm}
 use Rattle.model_types.specs.declared.records.Record.TheVariants as record_of
-use Rattle.model_types.specs.Kinds.{node_kind, element_kind, restraint_kind}
 use Rattle.model_types.specs.Rules.{IsModel, Keeps}
-use Rattle.model_types.specs.declared.records.Node.{Node}
 use Rattle.model_types.specs.declared.records.Restraint.{Restraint}
 use Rattle.model_types.specs.declared.records.RestraintKind.{RestraintKind}
 use Rattle.model_types.specs.declared.records.RestraintKind.TheVariants.{Anchor, Linear, Twist}
@@ -69,8 +67,9 @@ model_members-wide m number is = rw is
 pub AreMembers-from : (m : Lists) (elements members : List Member) → IsModel m → element_members m (length m.elements) ≡ Ok elements → All (IsSound (length m.nodes)) elements → length elements ≤ 8 * length m.elements → members ≡ elements ++ flat_map restraint_members m.restraints → AreMembers m members
 unfolding model_members
 AreMembers-from m elements members model is sound few whole =
-    let most_elements : length m.elements ≤ 4000 = model.rules.limits element_kind in
-    let most_restraints : length m.restraints ≤ 2000 = model.rules.limits restraint_kind in
+    let limits = model.few in
+    let most_elements = limits.elements in
+    let most_restraints = limits.restraints in
     subst (AreMembers m) (sym whole)
     record {
       value = rw is;
@@ -85,7 +84,7 @@ nodes_in_range m members are = λ k d inside. ((are.sound k d inside).first_node
 
 pub IsStructureOf-from : (m : Lists) (b : Built) → IsModel m → AreMembers m b.members → length b.at ≡ length m.nodes → ListsTouching b.members (length b.members) b.at → b.unilateral ≡ [] → b.stations ≡ [] → IsStructureOf m b
 IsStructureOf-from m b model are count lists linear no_stations =
-    let most_nodes : length m.nodes ≤ 2000 = model.rules.limits node_kind in
+    let most_nodes = model.few.nodes in
     record {
       members = are.value;
       nodes = count;

@@ -1,6 +1,5 @@
-use Rattle.std.proofs.Common.{◌≡◌, ◌<◌, ◌≤◌, ◌++◌, length, length-append, arith, ap, ◌∙◌}
+use Rattle.std.proofs.Common.{◌≡◌, ◌<◌, ◌++◌, length, length-append, arith, ap, ◌∙◌}
 use Rattle.std.proofs.lemmas.List.Elements.{All-append}
-use Rattle.model_types.specs.Kinds.{element_kind}
 use Rattle.structure.specs.Sound.{IsSound}
 use Rattle.structure.proofs.MemberLemmas.{element_members-next, element_members-wide, members-read, members-sound, members-count}
 use Rattle.structure.proofs.elements.all_element_members.Goals as goal
@@ -30,8 +29,3 @@ loop-number-preserved c =
       sound = rw items (All-append (IsSound (length c.args.model.now.nodes)) c.loop-number.members.items c.in-Ok.more c.loop-number.invariant.sound sound);
       few = omega (arith, ap length items, length-append c.loop-number.members.items c.in-Ok.more, count);
     }
-
-pub overflow_cast-result : goal.overflow_cast-result
-overflow_cast-result c =
-    let few : length c.args.model.now.elements ≤ 4000 = c.elements-elements.ensures.model.rules.limits element_kind in
-    omega (arith, few, ap length c.elements-elements.ensures.records, c.loop-number-test.true)
