@@ -2,13 +2,15 @@
 PROGRAM = crates/pipeflex/out/pipeflex
 EXAMPLE = examples/cantilever
 PREFIX ?= /usr/local
+JOBS ?= 4
 
 .PHONY: all run test install clean
 
 all: $(PROGRAM)
 
-# Proves every crate below the program, then compiles and links it.
+# Proves the crates, JOBS of them side by side, then compiles and links the program. After the gate nothing is left to prove.
 $(PROGRAM): crates.txt $(shell find crates -path '*/out' -prune -o -type f \( -name '*.rt' -o -name '*.antt' \) -print)
+	rt all check --jobs $(JOBS)
 	cd crates/pipeflex && rt run -- analyse < ../../$(EXAMPLE).flex > /dev/null
 
 # The report of the example, compared with the stored one.

@@ -1,0 +1,2 @@
+pub mod RoundedTable
+pub mod ArcLemmas

@@ -1,4 +1,4 @@
-//! Enclosures of pi.
+//! Enclosures of pi, and of the half angles of bends with their sines and cosines.
 #![tactic(auto)]
 
 ghost use Rattle.std.specs.Prelude.{◌≡◌, ◌*◌, ◌^◌, pos};
@@ -6,7 +6,12 @@ ghost use Rattle.flex_num.specs.Division.{floor_of, ceil_of};
 ghost use Rattle.flex_interval.specs.Fraction.{Fraction, Within, scaled};
 ghost use Rattle.angle_table.specs.Pi.{pi_ends, IsPi};
 
+mod angle;
+mod table;
+
+pub use angle::Half;
 use flex_interval::Iv;
+pub use table::half;
 
 /// Pi, in units of 2^-56.
 pub fn pi() -> Iv

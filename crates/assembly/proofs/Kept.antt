@@ -13,7 +13,8 @@ use Rattle.member_set.specs.declared.members.Law.{Law}
 use Rattle.member_set.specs.Members.{IsBuilt, node_count}
 use Rattle.member_set.specs.Realisation.{Realisation, IsRealisation, fraction}
 use Rattle.sym_blocks.specs.Matrix.{Matrix, entry}
-use Rattle.assembly.specs.Stiffness.{HasPatternOf, AreJoined, middle_of, radius_of, upper_entry, exact_entry, entry_unit, IsNear}
+use Rattle.assembly.specs.Stiffness.{HasPatternOf, AreJoined, upper_entry, exact_entry, entry_unit, IsNear}
+use Rattle.flex_interval.specs.Operations.{middle_of, radius_of}
 use Rattle.assembly.specs.Filling.{PutsAt, IsFilled, KeepsFilled}
 
 -- a number of an interval is at most the radius away from the middle

@@ -1,9 +1,8 @@
 -- The stiffness matrix of a structure: the enclosure of each entry, its middle and its radius, and what it encloses.
-use Rattle.std.specs.Prelude.{ℕ, ◌+◌, ◌/◌, ◌^◌, ◌<◌, ◌≡◌, ◌==◌, ◌||◌, ⊤, ◌⊎◌, ◌↔◌, Bool, nat_lt, length, slice_index, ℤ, pos, ◌+ℤ◌, ◌-ℤ◌, ◌*ℤ◌, ◌≤ℤ◌, unsigned_abs, Ok, Err, IsOk, IsErr, if◌then◌else◌}
+use Rattle.std.specs.Prelude.{ℕ, ◌+◌, ◌/◌, ◌^◌, ◌<◌, ◌≡◌, ◌==◌, ◌||◌, ⊤, ◌⊎◌, ◌↔◌, Bool, nat_lt, length, slice_index, ℤ, pos, ◌-ℤ◌, ◌*ℤ◌, ◌≤ℤ◌, unsigned_abs, Ok, Err, IsOk, IsErr, if◌then◌else◌}
 use Rattle.int_laws.specs.Sums.{sum_below}
-use Rattle.flex_num.specs.Division.{floor_of}
 use Rattle.flex_interval.specs.Ends.{Ends}
-use Rattle.flex_interval.specs.Operations.{and_then, add_of, mul_of}
+use Rattle.flex_interval.specs.Operations.{and_then, add_of, mul_of, middle_of, radius_of}
 use Rattle.flex_interval.specs.declared.fault.IvFault.TheVariants.{Wide}
 use Rattle.member_set.specs.declared.members.Member.{Member}
 use Rattle.member_set.specs.declared.members.Built.{Built}
@@ -32,14 +31,6 @@ entry_term b row col t = member_entry (member_of b (slice_index (members_at b (r
 -- the sum over the members at a row's node, in their order
 unfoldable pub entry_sum : Built → ℕ → ℕ → Outcome
 entry_sum b row col = in_turn add_of nothing (entry_term b row col) (length (members_at b (row / 6)))
-
--- half the sum of the ends, rounded down
-abbrev pub middle_of : Ends → ℤ
-middle_of e = floor_of (e.lo +ℤ e.hi) (pos 2)
-
--- how far the upper end is from the middle
-abbrev pub radius_of : Ends → ℤ
-radius_of e = e.hi -ℤ middle_of e
 
 -- the sizes of the middle and of the radius together below 2^60
 abbrev pub limited_entry : Ends → Outcome

@@ -1,14 +1,13 @@
 ghost use Rattle.std.specs.Prelude.{◌≡◌, ℕ, ◌+◌, ◌/◌, ◌^◌, ◌<◌, length, slice_index, ℤ, pos, ◌+ℤ◌, ◌-ℤ◌, ◌*ℤ◌, ◌≤ℤ◌, ◌<ℤ◌, unsigned_abs, IfOk, List};
-ghost use Rattle.flex_num.specs.Division.{IsFloor};
 ghost use Rattle.flex_interval.specs.Ends.{Ends};
 ghost use Rattle.flex_interval.specs.Fraction.{Within};
-ghost use Rattle.flex_interval.specs.Operations.{and_then, add_of, mul_of};
+ghost use Rattle.flex_interval.specs.Operations.{and_then, add_of, mul_of, middle_of, radius_of};
 ghost use Rattle.member_set.specs.declared.members.Law.{Law};
 ghost use Rattle.member_set.specs.Members.{IsBuilt, shape_at, row_count, members_at};
 ghost use Rattle.member_set.specs.Realisation.{Realisation, IsRealisation, fraction};
-ghost use Rattle.assembly.specs.Stiffness.{touches, member_entry, entry_sum, middle_of, radius_of, limited_entry, upper_entry, exact_entry, entry_unit};
+ghost use Rattle.assembly.specs.Stiffness.{touches, member_entry, entry_sum, limited_entry, upper_entry, exact_entry, entry_unit};
 
-use flex_interval::{Iv, IvFault};
+use flex_interval::{Iv, IvFault, middle, radius};
 use member_set::{Built, Member, shape};
 
 /// The middle and the radius of an entry together are below this, in units of 2^-20 N/m.
@@ -36,24 +35,6 @@ fn limited(e: Iv) -> Result<Iv, IvFault>
     } else {
         Err(IvFault::Wide)
     }
-}
-
-/// Half the sum of the ends, rounded down.
-pub(crate) fn middle(e: Iv) -> i128
-    ensures value { result ≡ middle_of e }
-    ensures meaning { IsFloor (e.lo +ℤ e.hi) (pos 2) result }
-    ensures small { unsigned_abs result < 2 ^ 126 }
-{
-    flex_num::floor_div(e.lo + e.hi, 2)
-}
-
-/// How far the upper end is from the middle.
-pub(crate) fn radius(e: Iv) -> i128
-    ensures value { result ≡ radius_of e }
-    ensures not_negative { pos 0 ≤ℤ result }
-    ensures small { unsigned_abs result < 2 ^ 126 }
-{
-    e.hi - middle(e)
 }
 
 /// The sum over the members at a row's node.

@@ -4,8 +4,8 @@ ghost use Rattle.sym_blocks.specs.Matrix.{HasBlock};
 ghost use Rattle.assembly.specs.Stiffness.{HasPatternOf, upper_entry};
 ghost use Rattle.assembly.specs.Filling.{PutsAt, IsFilled, KeepsFilled, IsWideFrom};
 
-use crate::entries::{middle, radius, upper_entry};
-use flex_interval::IvFault;
+use crate::entries::upper_entry;
+use flex_interval::{IvFault, middle, radius};
 use member_set::Built;
 use sym_blocks::SymBlocks;
 

@@ -1,5 +1,5 @@
 use flex_interval::{
-    Iv, IvFault, Wide, abs, add, div, max, min, mul, neg, point, ratio, root, sub,
+    Iv, IvFault, Wide, abs, add, best_root, cbrt, div, max, min, mul, neg, point, ratio, root, sub,
 };
 use std::test::Fail;
 
@@ -112,9 +112,46 @@ fn roots(rt: HostRuntime) {
             Ok((50_952_413_380_206_180, 50_952_413_380_206_181)),
         ),
         (root(Iv { lo: 1, hi: 1 << 63 }, 63), WIDE),
+        (cbrt(Iv { lo: 7, hi: 8 }, 0), Ok((1, 2))),
+        (cbrt(Iv { lo: 1, hi: 28 }, 3), Ok((2, 7))),
+        (
+            cbrt(point(1 << 40), 56),
+            Ok((1 << 32, 1 << 32)),
+        ),
+        (cbrt(Iv { lo: 1, hi: 1 << 63 }, 63), WIDE),
     ];
     for (answer, expected) in rows {
         assert_eq!(rt; ends(answer), expected);
+    }
+}
+
+// The number, the shift and the ends.
+#[test]
+fn best_roots(rt: HostRuntime) {
+    let rows: [(i128, u32, i128, i128); 7] = [
+        (1, 120, 1 << 60, 1 << 60),
+        (
+            3,
+            120,
+            1_996_918_623_117_814_387,
+            1_996_918_623_117_814_388,
+        ),
+        (
+            (1 << 64) - 1,
+            60,
+            4_611_686_018_427_387_903,
+            1 << 62,
+        ),
+        (1 << 64, 58, 1 << 61, 1 << 61),
+        ((1 << 122) - 1, 2, 4_611_686_018_427_387_903, 1 << 62),
+        (1 << 122, 0, 1 << 61, 1 << 61),
+        ((1 << 124) - 1, 0, 4_611_686_018_427_387_903, 1 << 62),
+    ];
+    for (n, shift, lo, hi) in rows {
+        if 0 < n && n < 1 << 124 {
+            let (e, root) = best_root(n);
+            assert_eq!(rt; (e, root.lo, root.hi), (shift, lo, hi), "at {n}");
+        }
     }
 }
 

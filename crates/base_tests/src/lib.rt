@@ -6,8 +6,8 @@ mod fields;
 #[cfg(test)]
 mod intervals;
 #[cfg(test)]
-mod lists;
-#[cfg(test)]
 mod numbers;
+#[cfg(test)]
+mod rising;
 #[cfg(test)]
 mod streams;

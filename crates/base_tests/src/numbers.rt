@@ -1,4 +1,4 @@
-use flex_num::{ceil_div, floor_div, isqrt, isqrt_up, mul, nearest_div};
+use flex_num::{ceil_div, floor_div, icbrt, icbrt_up, isqrt, isqrt_up, mul, nearest_div};
 
 // Values at the ends of `i128` and at ties, worked out outside this program.
 #[test]
@@ -52,6 +52,33 @@ fn roots(rt: HostRuntime) {
     for (n, down, up) in rows {
         if 0 <= n {
             assert_eq!(rt; (isqrt(n), isqrt_up(n)), (down, up), "at {n}");
+        }
+    }
+}
+
+#[test]
+fn cube_roots(rt: HostRuntime) {
+    let rows: [(i128, i128, i128); 12] = [
+        (0, 0, 0),
+        (1, 1, 1),
+        (7, 1, 2),
+        (8, 2, 2),
+        (9, 2, 3),
+        (26, 2, 3),
+        (27, 3, 3),
+        (
+            100_000_000_000_000_000_000_000_000_000_000_000_000,
+            4_641_588_833_612,
+            4_641_588_833_613,
+        ),
+        ((1 << 126) - 1, 4_398_046_511_103, 1 << 42),
+        (1 << 126, 1 << 42, 1 << 42),
+        ((1 << 126) + 1, 1 << 42, 4_398_046_511_105),
+        (i128::MAX, 5_541_191_377_756, 5_541_191_377_757),
+    ];
+    for (n, down, up) in rows {
+        if 0 <= n {
+            assert_eq!(rt; (icbrt(n), icbrt_up(n)), (down, up), "at {n}");
         }
     }
 }

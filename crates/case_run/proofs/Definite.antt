@@ -9,7 +9,7 @@ use Rattle.member_set.specs.Members.{node_count as nodes_of, row_count}
 use Rattle.member_set.specs.Realisation.{Realisation, IsRealisation}
 use Rattle.sym_blocks.specs.Matrix.{Matrix, node_count, entry}
 use Rattle.assembly.specs.Stiffness.{exact_entry, entry_unit, IsNear}
-use Rattle.certificate.specs.QuadraticForm.{absolute}
+use Rattle.int_laws.specs.Matrices.{absolute}
 use Rattle.certificate.specs.Definiteness.{SymmetricFractions, IsDefiniteWith}
 use Rattle.certificate.specs.Enclosure.{member_sum}
 use Rattle.certificate.specs.Bounds.{IsDefiniteRealisation}

@@ -15,7 +15,7 @@ use Rattle.model_types.specs.declared.answers.CaseAnswer.TheVariants.{Certified,
 use Rattle.sym_blocks.specs.Matrix.{Matrix, entry}
 use Rattle.assembly.specs.Stiffness.{AreAssembled}
 use Rattle.factor_data.specs.Columns.{Columns}
-use Rattle.factor_data.specs.Order.{IsOrder}
+use Rattle.lists.specs.Order.{IsOrder}
 use Rattle.solve.specs.Refinement.{problem, LeadTo, IsTooWide}
 use Rattle.certificate.specs.declared.bounds.Enclosure.{Enclosure}
 use Rattle.certificate.specs.Bounds.{sum_of_squares, displacement_radius, force_radius, HasBounds, AreBounds, HasNoBounds, no_residual, long, far, unsteady}

@@ -4,7 +4,7 @@ use Rattle.std.proofs.lemmas.Bool.{cases_lt}
 use Rattle.model_types.specs.declared.answers.Cause.{Cause}
 use Rattle.sym_blocks.specs.Matrix.{Matrix, node_count, entry}
 use Rattle.factor_data.specs.Columns.{Columns}
-use Rattle.factor_data.specs.Order.{IsOrder}
+use Rattle.lists.specs.Order.{IsOrder}
 use Rattle.certificate.specs.declared.check.Verdict.TheVariants.{Yes, No}
 use Rattle.certificate.specs.Checker.{test_of}
 use Rattle.case_run.specs.Causes.{Plan, IsFactorAt, IsBreakdownCause}

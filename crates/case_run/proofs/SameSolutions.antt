@@ -14,11 +14,14 @@ use Rattle.member_set.specs.declared.members.Built.{Built}
 use Rattle.member_set.specs.Members.{row_count}
 use Rattle.member_set.specs.Interval.{Outcome, residual_of}
 use Rattle.factor_data.specs.Columns.{Columns, entry}
-use Rattle.factor_data.specs.Order.{IsOrder, freedom_at, position_of}
+use Rattle.factor_data.specs.Order.{freedom_at, position_of}
+use Rattle.lists.specs.Order.{IsOrder}
 use Rattle.factor_data.proofs.OrderLemmas.{position-below, row-of_position, row-below}
-use Rattle.solve.specs.Substitution.{Matrix, Vector, at, absolute, IsForwardBelow, IsForward, ForwardBreaks, forward_size, IsBackwardFrom, IsBackward, BackwardBreaks}
+use Rattle.solve.specs.Substitution.{at, IsForwardBelow, IsForward, ForwardBreaks, forward_size, IsBackwardFrom, IsBackward, BackwardBreaks}
+use Rattle.int_laws.specs.Matrices.{Entries, Vector, absolute}
 use Rattle.solve.specs.Numerators.{past}
-use Rattle.solve.specs.Refinement.{middle_of, AreMiddles, HasNoResidual, IsScale, HasNoRoom, forward_side, backward_side, IsMoved, MovesTooFar, problem, IsTurn, TurnBreaks, no_residual, no_room, forward_broad, backward_broad, too_far, LeadTo, IsTooWide}
+use Rattle.solve.specs.Refinement.{AreMiddles, HasNoResidual, IsScale, HasNoRoom, forward_side, backward_side, IsMoved, MovesTooFar, problem, IsTurn, TurnBreaks, no_residual, no_room, forward_broad, backward_broad, too_far, LeadTo, IsTooWide}
+use Rattle.flex_interval.specs.Operations.{middle_of}
 use Rattle.solve.proofs.ColumnsTaken.{past-before}
 
 -- the same entries in the first n rows and columns
@@ -30,13 +33,13 @@ abbrev pub AreSameSides : ℕ → Vector → Vector → Type 0
 AreSameSides n r s = (k : ℕ) → k < n → r k ≡ s k
 
 -- ---- G y = r
-forward_sum-same : (n : ℕ) (g h : Matrix) (y z : List ℤ) (j m : ℕ) (w : ℤ → ℤ) → AreAlike n g h → j < n → m ≤ n → ((k : ℕ) → k < m → at y k ≡ at z k) →
+forward_sum-same : (n : ℕ) (g h : Entries) (y z : List ℤ) (j m : ℕ) (w : ℤ → ℤ) → AreAlike n g h → j < n → m ≤ n → ((k : ℕ) → k < m → at y k ≡ at z k) →
     sum_below m (λ k. w (g j k *ℤ at y k)) ≡ sum_below m (λ k. w (h j k *ℤ at z k))
 forward_sum-same n g h y z j m w alike inside le same =
     sum_below-same m (λ k. w (g j k *ℤ at y k)) (λ k. w (h j k *ℤ at z k))
     (λ k l. ap₂ (λ (u v : ℤ). w (u *ℤ v)) (alike j k inside (omega arith)) (same k l))
 
-forward_below-same : (n : ℕ) (g h : Matrix) (r s : Vector) (y z : List ℤ) (j : ℕ) → j ≤ n → AreAlike n g h → AreSameSides n r s →
+forward_below-same : (n : ℕ) (g h : Entries) (r s : Vector) (y z : List ℤ) (j : ℕ) → j ≤ n → AreAlike n g h → AreSameSides n r s →
     IsForwardBelow g r y j → IsForwardBelow h s z j → (k : ℕ) → k < j → at y k ≡ at z k
 forward_below-same n g h r s y z zero le alike sides one other k below = absurd (omega arith)
 forward_below-same n g h r s y z (suc j) le alike sides one other k below =
@@ -50,7 +53,7 @@ forward_below-same n g h r s y z (suc j) le alike sides one other k below =
       | inr not_less ↦ let here : j ≡ k = omega arith in subst (λ (m : ℕ). at y m ≡ at z m) here last
     ]
 
-pub forward-same : (n : ℕ) (g h : Matrix) (r s : Vector) (y z : List ℤ) → AreAlike n g h → AreSameSides n r s → IsForward n g r y → IsForward n h s z → y ≡ z
+pub forward-same : (n : ℕ) (g h : Entries) (r s : Vector) (y z : List ℤ) → AreAlike n g h → AreSameSides n r s → IsForward n g r y → IsForward n h s z → y ≡ z
 forward-same n g h r s y z alike sides one other =
     ext_get_or (pos 0) y z (one.one_each ∙ sym other.one_each)
     (λ k l. forward_below-same n g h r s y z n (omega arith) alike sides one.solved other.solved k (omega (arith, one.one_each)))
@@ -62,7 +65,7 @@ sum-more m n f le up =
     let whole : m + (n - m) ≡ n = omega arith in
     subst (λ (x : ℕ). sum_below m f ≤ℤ sum_below x f) whole (omega (arith, int_sums, split, rest))
 
-pub forward-excludes : (n : ℕ) (g h : Matrix) (r s : Vector) (y : List ℤ) → AreAlike n g h → AreSameSides n r s → IsForward n g r y → ForwardBreaks n h s → ⊥
+pub forward-excludes : (n : ℕ) (g h : Entries) (r s : Vector) (y : List ℤ) → AreAlike n g h → AreSameSides n r s → IsForward n g r y → ForwardBreaks n h s → ⊥
 forward-excludes n g h r s y alike sides one breaks =
     let k = breaks.known in
     let p = breaks.position in
@@ -77,7 +80,7 @@ forward-excludes n g h r s y alike sides one breaks =
     absurd (omega (arith, int_sums, more, narrow, broad))
 
 -- ---- G^T z = s
-backward_sum-same : (n : ℕ) (g h : Matrix) (y z : List ℤ) (k : ℕ) (w : ℤ → ℤ) → AreAlike n g h → k < n → ((i : ℕ) → k < i → i < n → at y i ≡ at z i) →
+backward_sum-same : (n : ℕ) (g h : Entries) (y z : List ℤ) (k : ℕ) (w : ℤ → ℤ) → AreAlike n g h → k < n → ((i : ℕ) → k < i → i < n → at y i ≡ at z i) →
     sum_below n (λ i. past k i (w (g i k *ℤ at y i))) ≡ sum_below n (λ i. past k i (w (h i k *ℤ at z i)))
 backward_sum-same n g h y z k w alike inside same =
     sum_below-same n (λ i. past k i (w (g i k *ℤ at y i))) (λ i. past k i (w (h i k *ℤ at z i)))
@@ -86,7 +89,7 @@ backward_sum-same n g h y z k w alike inside same =
       | inr not_past ↦ past-before k i (w (g i k *ℤ at y i)) not_past ∙ sym (past-before k i (w (h i k *ℤ at z i)) not_past)
     ])
 
-backward_from-same : (n : ℕ) (g h : Matrix) (r s : Vector) (y z : List ℤ) (j m k : ℕ) → AreAlike n g h → AreSameSides n r s →
+backward_from-same : (n : ℕ) (g h : Entries) (r s : Vector) (y z : List ℤ) (j m k : ℕ) → AreAlike n g h → AreSameSides n r s →
     IsBackwardFrom n g r y j → IsBackwardFrom n h s z j → n ≤ k + m → j ≤ k → k < n → at y k ≡ at z k
 backward_from-same n g h r s y z j zero k alike sides one other far from inside = absurd (omega arith)
 backward_from-same n g h r s y z j (suc m) k alike sides one other far from inside =
@@ -95,12 +98,12 @@ backward_from-same n g h r s y z j (suc m) k alike sides one other far from insi
     let value = ap₂ (λ (u v : ℤ). u -ℤ v) (sides k inside) sum in
     (one k from inside).value ∙ ap₂ nearest_of value (alike k k inside inside) ∙ sym ((other k from inside).value)
 
-pub backward-same : (n : ℕ) (g h : Matrix) (r s : Vector) (y z : List ℤ) → AreAlike n g h → AreSameSides n r s → IsBackward n g r y → IsBackward n h s z → y ≡ z
+pub backward-same : (n : ℕ) (g h : Entries) (r s : Vector) (y z : List ℤ) → AreAlike n g h → AreSameSides n r s → IsBackward n g r y → IsBackward n h s z → y ≡ z
 backward-same n g h r s y z alike sides one other =
     ext_get_or (pos 0) y z (one.one_each ∙ sym other.one_each)
     (λ k l. backward_from-same n g h r s y z 0 n k alike sides one.solved other.solved (omega arith) (omega arith) (omega (arith, one.one_each)))
 
-pub backward-excludes : (n : ℕ) (g h : Matrix) (r s : Vector) (y : List ℤ) → AreAlike n g h → AreSameSides n r s → IsBackward n g r y → BackwardBreaks n h s → ⊥
+pub backward-excludes : (n : ℕ) (g h : Entries) (r s : Vector) (y : List ℤ) → AreAlike n g h → AreSameSides n r s → IsBackward n g r y → BackwardBreaks n h s → ⊥
 backward-excludes n g h r s y alike sides one breaks =
     let p = breaks.position in
     let inside = breaks.inside in

@@ -1,5 +1,5 @@
 -- A model has one structure, one pair of matrices, and one list of loads.
-use Rattle.std.specs.Prelude.{if◌then◌else◌, nat_eq, IsErr, IsOk, Result, Ok, Err, AllPairs}
+use Rattle.std.specs.Prelude.{if◌then◌else◌, nat_eq, IsErr, IsOk, Result, Ok, Err}
 use Rattle.std.proofs.Common.{◌≡◌, ℕ, zero, suc, ◌*◌, ◌^◌, ◌<◌, ◌≤◌, refl, sym, ◌∙◌, ap, ap₂, arith, List, [], ◌∷◌, length, Contains, ext_get_or, ℤ, pos, ◌-ℤ◌, ◌*ℤ◌, inl, inr}
 use Rattle.std.proofs.lemmas.Bool.{cases_lt}
 use Rattle.flex_interval.specs.Ends.{Ends}
@@ -11,49 +11,17 @@ use Rattle.model_types.specs.Lists.{Lists}
 use Rattle.model_types.specs.declared.answers.Cause.{Cause}
 use Rattle.model_types.specs.declared.answers.Cause.TheVariants as causes
 use Rattle.sym_blocks.specs.Matrix.{Matrix, entry}
-use Rattle.assembly.specs.Stiffness.{middle_of, radius_of, stiffness_at, AreAssembled, IsFirstWide}
+use Rattle.assembly.specs.Stiffness.{stiffness_at, AreAssembled, IsFirstWide}
+use Rattle.flex_interval.specs.Operations.{middle_of, radius_of}
 use Rattle.cholesky_laws.specs.Recurrence.{freedom_at, scaled}
-use Rattle.factor_data.specs.Order.{IsOrder}
+use Rattle.lists.specs.Order.{IsOrder}
 use Rattle.factor_data.proofs.OrderLemmas.{row-below}
 use Rattle.factor.specs.State.{matrix_of}
+use Rattle.lists.proofs.UniqueLemmas.{rising_unique}
 use Rattle.structure.specs.Structure.{IsStructureOf, model_members}
 use Rattle.load_vectors.specs.Loads.{AreLoads, IsFirstWideLoad, row_load}
 use Rattle.case_run.specs.Causes.{IsElementCause, first_element, IsMatrixCause, matrix_row, IsLoadCause, load_row, width_matrix, width_load}
 use Rattle.case_run.proofs.SameSolutions.{AreAlike, same_ok, not_err}
-
--- ---- rising lists of the same numbers
-abbrev IsRising : List ℕ → Type 0
-IsRising xs = AllPairs (λ x y. x < y) xs
-
-head-least : (y : ℕ) (ys : List ℕ) (k : ℕ) → IsRising (y ∷ ys) → Contains (y ∷ ys) k → y ≤ k
-head-least y ys k rising (zero, inside, is) = omega (arith, is)
-head-least y ys k rising (suc i, inside, is) = omega (arith, rising 0 (suc i) k (omega arith) inside, is)
-
-tail-above : (x : ℕ) (xs : List ℕ) (k : ℕ) → IsRising (x ∷ xs) → Contains xs k → x < k
-tail-above x xs k rising (i, inside, is) = omega (arith, rising 0 (suc i) k (omega arith) (omega (arith, inside)), is)
-
-in_tail : (y : ℕ) (ys : List ℕ) (k : ℕ) → Contains (y ∷ ys) k → y < k → Contains ys k
-in_tail y ys k (zero, inside, is) above = absurd (omega (arith, is, above))
-in_tail y ys k (suc i, inside, is) above = (i, omega (arith, inside), is)
-
-in_longer : (x : ℕ) (xs : List ℕ) (k : ℕ) → Contains xs k → Contains (x ∷ xs) k
-in_longer x xs k (i, inside, is) = (suc i, omega (arith, inside), is)
-
-tail-rising : (x : ℕ) (xs : List ℕ) → IsRising (x ∷ xs) → IsRising xs
-tail-rising x xs rising i j d before inside = rising (suc i) (suc j) d (omega arith) (omega (arith, inside))
-
-rising-same : (xs ys : List ℕ) → IsRising xs → IsRising ys → ((k : ℕ) → Contains xs k → Contains ys k) → ((k : ℕ) → Contains ys k → Contains xs k) → xs ≡ ys
-rising-same [] [] up up_too to from = refl
-rising-same [] (y ∷ ys) up up_too to from = let none = from y (0, omega arith, refl) in absurd (omega (arith, none.1))
-rising-same (x ∷ xs) [] up up_too to from = let none = to x (0, omega arith, refl) in absurd (omega (arith, none.1))
-rising-same (x ∷ xs) (y ∷ ys) up up_too to from =
-    let low = head-least y ys x up_too (to x (0, omega arith, refl)) in
-    let high = head-least x xs y up (from y (0, omega arith, refl)) in
-    let same : x ≡ y = omega arith in
-    let rest = rising-same xs ys (tail-rising x xs up) (tail-rising y ys up_too)
-    (λ k has. let above = tail-above x xs k up has in in_tail y ys k (to k (in_longer x xs k has)) (omega (arith, above, same)))
-    (λ k has. let above = tail-above y ys k up_too has in in_tail x xs k (from k (in_longer y ys k has)) (omega (arith, above, same))) in
-    ap₂ (λ (z : ℕ) (zs : List ℕ). z ∷ zs) same rest
 
 -- ---- the structure
 abbrev built : List Member → List ℕ → List Station → List (List ℕ) → Built
@@ -74,7 +42,7 @@ structure-one m b c one other =
     ext_get_or [] b.at c.at nodes
     (λ node l.
     let there : node < length c.at = omega (arith, nodes) in
-    rising-same (members_at b node) (members_at c node) (one.built.rising node) (other.built.rising node)
+    rising_unique (members_at b node) (members_at c node) (one.built.rising node) (other.built.rising node)
     (λ k has. (other.built.touching node k there).1 (rw members at ((one.built.touching node k l).0 has)))
     (λ k has. (one.built.touching node k l).1 (rw (sym members) at ((other.built.touching node k there).0 has)))) in
     built-same b c members (one.linear ∙ sym other.linear) (one.no_stations ∙ sym other.no_stations) lists

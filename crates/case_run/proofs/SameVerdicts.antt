@@ -6,10 +6,11 @@ use Rattle.int_laws.specs.Sums.{sum_below}
 use Rattle.int_laws.proofs.Sums.{int_sums}
 use Rattle.int_laws.proofs.SumLaws.{sum_below-same}
 use Rattle.sym_blocks.specs.Matrix.{Matrix as Blocks, node_count, entry as block_entry}
-use Rattle.factor_data.specs.Order.{IsOrder, position_of}
+use Rattle.factor_data.specs.Order.{position_of}
+use Rattle.lists.specs.Order.{IsOrder}
 use Rattle.factor_data.specs.Columns.{Columns, entry}
 use Rattle.factor_data.proofs.OrderLemmas.{position-below}
-use Rattle.certificate.specs.QuadraticForm.{absolute, scalar_matrix}
+use Rattle.int_laws.specs.Matrices.{absolute, scalar_matrix}
 use Rattle.certificate.specs.Definiteness.{CholeskyTest, residual, row_margin}
 use Rattle.certificate.specs.Checker.{test_of, product_sizes, RowIsRefused, IsVerdict}
 use Rattle.certificate.specs.declared.check.Verdict.{Verdict}

@@ -4,7 +4,8 @@ use Rattle.std.proofs.Math.ListN.{get_or-map}
 use Rattle.std.proofs.lemmas.List.{get_or-drop}
 use Rattle.flex_interval.specs.Ends.{Ends}
 use Rattle.member_set.specs.Members.{nothing}
-use Rattle.member_set.specs.Realisation.{Vector, Realisation}
+use Rattle.member_set.specs.Realisation.{Realisation}
+use Rattle.int_laws.specs.Matrices.{Vector}
 use Rattle.model_types.specs.Lists.{Lists}
 use Rattle.model_types.specs.declared.answers.Bounds.{Bounds}
 use Rattle.model_types.specs.declared.answers.CaseAnswer.{CaseAnswer}

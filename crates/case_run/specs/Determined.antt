@@ -2,7 +2,7 @@
 use Rattle.std.specs.Prelude.{◌≡◌, List, length}
 use Rattle.model_types.specs.Lists.{Lists}
 use Rattle.model_types.specs.declared.answers.CaseAnswer.{CaseAnswer}
-use Rattle.factor_data.specs.Order.{IsOrder}
+use Rattle.lists.specs.Order.{IsOrder}
 use Rattle.case_run.specs.Causes.{Plan}
 use Rattle.case_run.specs.Certified.{AreCaseAnswers}
 

@@ -4,7 +4,8 @@ use Rattle.flex_interval.specs.Ends.{Ends}
 use Rattle.flex_interval.specs.Fraction.{Within}
 use Rattle.member_set.specs.declared.members.Built.{Built}
 use Rattle.member_set.specs.Members.{nothing}
-use Rattle.member_set.specs.Realisation.{Vector, Realisation, IsRealisation, IsEquilibrium, force_in, fraction, force_fraction}
+use Rattle.member_set.specs.Realisation.{Realisation, IsRealisation, IsEquilibrium, force_in, fraction, force_fraction}
+use Rattle.int_laws.specs.Matrices.{Vector}
 use Rattle.model_types.specs.Lists.{Lists}
 use Rattle.model_types.specs.declared.answers.Bounds.{Bounds}
 use Rattle.model_types.specs.declared.answers.CaseAnswer.{CaseAnswer}

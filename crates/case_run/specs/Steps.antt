@@ -3,9 +3,9 @@ use Rattle.std.specs.Prelude.{◌≡◌, ℕ, ◌*◌, ◌^◌, ◌<◌, ◌≤�
 use Rattle.model_types.specs.declared.answers.Cause.{Cause}
 use Rattle.sym_blocks.specs.Matrix.{Matrix, node_count, entry}
 use Rattle.factor_data.specs.Columns.{Columns, entry as factor_entry}
-use Rattle.factor_data.specs.Order.{IsOrder}
+use Rattle.lists.specs.Order.{IsOrder}
 use Rattle.factor.specs.State.{AreParents}
-use Rattle.certificate.specs.QuadraticForm.{absolute}
+use Rattle.int_laws.specs.Matrices.{absolute}
 use Rattle.certificate.specs.Definiteness.{SymmetricFractions, IsDefiniteWith}
 use Rattle.member_set.specs.declared.members.Built.{Built}
 use Rattle.member_set.specs.Members.{node_count as nodes_of}

@@ -6,7 +6,7 @@ ghost use Rattle.case_run.specs.Shared.{IsReady, IsShared};
 ghost use Rattle.case_run.specs.Steps.{Names};
 ghost use Rattle.certificate.specs.Bounds.{EnclosesEquilibrium};
 ghost use Rattle.factor.specs.State.{AreParents};
-ghost use Rattle.factor_data.specs.Order.{IsOrder};
+ghost use Rattle.lists.specs.Order.{IsOrder};
 ghost use Rattle.load_vectors.specs.Loads.{HasForcesAlone, case_at};
 ghost use Rattle.structure.specs.Anchors.{HasAnchorsAlone};
 
@@ -15,7 +15,7 @@ use crate::shared::{Shared, share};
 use crate::steps::{bounds_around, displacements_of, loads_of};
 use certificate::Enclosure;
 use flex_interval::Iv;
-use model_types::{Bounds, CaseAnswer, CaseId, Cause, Model, NoMemory, Values};
+use model_types::{Bounds, CaseAnswer, CaseId, Cause, Model, NoMemory, Sequence};
 use std::alloc::{AllocError, Global};
 
 /// The answer of each case of a model in whose cases nothing but forces acts: certified bounds, or the first cause why there
@@ -119,9 +119,9 @@ fn certified(alloc: Global, e: &Enclosure, first: usize) -> Result<CaseAnswer, A
     ensures { IfOk result (TellsBounds first e.now) }
 {
     Ok(CaseAnswer::Certified {
-        u: Values::new(bounds_from(alloc, e.u.as_slice(), 0)?),
-        loads: Values::new(bounds_from(alloc, e.force.as_slice(), first)?),
-        states: Values::new(Vec::new(alloc)),
+        u: Sequence::new(bounds_from(alloc, e.u.as_slice(), 0)?),
+        loads: Sequence::new(bounds_from(alloc, e.force.as_slice(), first)?),
+        states: Sequence::new(Vec::new(alloc)),
     })
 }
 
@@ -131,7 +131,7 @@ fn uncertified(alloc: Global, cause: Cause) -> CaseAnswer
 {
     CaseAnswer::Uncertified {
         cause,
-        guess: Values::new(Vec::new(alloc)),
+        guess: Sequence::new(Vec::new(alloc)),
     }
 }
 

@@ -1,13 +1,14 @@
 ghost use Rattle.std.specs.Prelude.{◌≡◌, ◌<◌, ◌≤◌, ℕ, length, [], IfOk, IfErr, ℤ, pos, ◌≤ℤ◌, ◌^◌, List};
 ghost use Rattle.flex_interval.specs.Ends.{Ends};
 ghost use Rattle.member_set.specs.Members.{IsBuilt, FitsBuilt, IsModerate, node_count, row_count};
-ghost use Rattle.member_set.specs.Realisation.{Realisation, IsRealisation, IsEquilibrium, Vector};
+ghost use Rattle.member_set.specs.Realisation.{Realisation, IsRealisation, IsEquilibrium};
+ghost use Rattle.int_laws.specs.Matrices.{Vector};
 ghost use Rattle.assembly.specs.Stiffness.{AreAssembled, exact_entry, entry_unit, IsNear};
 ghost use Rattle.sym_blocks.specs.Matrix.{entry};
 ghost use Rattle.certificate.specs.Bounds.{AreBounds, IsDefiniteRealisation, EnclosesEquilibrium};
 ghost use Rattle.case_run.specs.Certified.{IsResidualCause};
 ghost use Rattle.factor.specs.State.{AreParents};
-ghost use Rattle.factor_data.specs.Order.{IsOrder};
+ghost use Rattle.lists.specs.Order.{IsOrder};
 ghost use Rattle.load_vectors.specs.Loads.{AreLoads, HasForcesAlone, case_at};
 ghost use Rattle.solve.specs.Refinement.{problem, IsCandidate};
 ghost use Rattle.structure.specs.Anchors.{HasAnchorsAlone};

@@ -14,15 +14,19 @@ use Rattle.int_laws.proofs.SumLaws.{sum_below-same, sum_below-nonnegative}
 use Rattle.sym_blocks.specs.Matrix.{Matrix as Blocks, node_count, entry as block_entry}
 use Rattle.factor_data.specs.Order.{position_of, freedom_at}
 use Rattle.factor_data.specs.Columns.{Columns, column_rows, column_values, column_entry, entry, IsFactor}
-use Rattle.factor_data.proofs.OrderLemmas.{position-below, row-below, position-of_row, spread-rising, contained_or_not}
+use Rattle.factor_data.proofs.OrderLemmas.{position-below, row-below, position-of_row}
+use Rattle.lists.proofs.PlaceLemmas.{spread-rising}
+use Rattle.lists.proofs.UniqueLemmas.{decide_contains}
 use Rattle.factor_data.proofs.ColumnLemmas.{part-listed, part-missing}
 use Rattle.certificate.specs.declared.row_lists.RowEntry.{RowEntry}
-use Rattle.certificate.specs.declared.row_sums.Sum.{Sum}
-use Rattle.certificate.specs.QuadraticForm.{absolute, scalar_matrix}
+use Rattle.flex_num.specs.declared.guarded.GuardedSum.{GuardedSum}
+use Rattle.int_laws.specs.Matrices.{absolute, scalar_matrix}
 use Rattle.certificate.specs.Definiteness.{CholeskyTest, residual, row_margin, RowFails, IsDefinitenessMargin}
-use Rattle.certificate.specs.Places.{IsPlaces}
-use Rattle.certificate.specs.RowSums.{zero_sum, column_size}
-use Rattle.certificate.specs.RowLists.{list_of, row_product, ListsRow, SumsRow, IsRowBeyond}
+use Rattle.lists.specs.Order.{places_of}
+use Rattle.certificate.specs.RowSums.{column_size}
+use Rattle.flex_num.specs.Guarded.{zero_sum}
+use Rattle.certificate.specs.RowLists.{row_product, ListsRow, SumsRow, IsRowBeyond}
+use Rattle.lists.specs.Lists.{list_of}
 use Rattle.certificate.specs.Space.{Lists, AreListsOf}
 use Rattle.certificate.specs.RowResidual.{missed, HasResidual, IsRowLost}
 use Rattle.certificate.specs.Checker.{test_of, product_sizes, RowIsRefused, IsVerdict, Proves}
@@ -34,7 +38,7 @@ column-size : (f : Columns) (k i : ℕ) → IsFactor f → column_size (column_r
 column-size f k i kept =
     let rows = column_rows f k in
     let spread = spread-rising (column_rows f k) _ (kept.rising k) (λ j h. kept.in_range j k h) in
-    elim (contained_or_not (column_rows f k) i) [
+    elim (decide_contains (column_rows f k) i) [
       | inl found ↦
           let at = get_or_default (column_rows f k) found.0 0 i found.1 ∙ found.2 in
           part-listed absolute (column_rows f k) (column_values f k) _ found.0 i spread found.1 at
@@ -60,8 +64,8 @@ sizes f list p j kept lists =
     ∙ sym (absolute-mul (entry f p k) (entry f j k)))
 
 -- what the sums miss is the residual
-missed-residual : (middle radii : Blocks) (f : Columns) (shift : ℤ) (places : List ℕ) (list : List RowEntry) (sums : List Sum) (row c : ℕ) → IsFactor f →
-    length f.order ≡ node_count middle → IsPlaces f.order places → ListsRow f (position_of f.order row) list → length sums ≡ 6 * length f.order → SumsRow f list sums →
+missed-residual : (middle radii : Blocks) (f : Columns) (shift : ℤ) (places : List ℕ) (list : List RowEntry) (sums : List GuardedSum) (row c : ℕ) → IsFactor f →
+    length f.order ≡ node_count middle → places ≡ places_of f.order → ListsRow f (position_of f.order row) list → length sums ≡ 6 * length f.order → SumsRow f list sums →
     c < 6 * node_count middle → missed middle shift places sums row c ≡ residual (test_of middle radii f shift) row c
 missed-residual middle radii f shift places list sums row c kept same placed lists positions summed inside =
     let at = position-read f.order places c placed (omega (arith, same)) in
@@ -71,7 +75,7 @@ missed-residual middle radii f shift places list sums row c kept same placed lis
     ap (λ (z : ℤ). (pos (2 ^ 52) *ℤ (block_entry middle row c -ℤ scalar_matrix shift row c)) -ℤ z) (value ∙ there)
 
 residual-total : (middle radii : Blocks) (f : Columns) (shift : ℤ) (places : List ℕ) (list : List RowEntry) (row : ℕ) (r : ℤ) → IsFactor f →
-    length f.order ≡ node_count middle → IsPlaces f.order places → ListsRow f (position_of f.order row) list → HasResidual f list middle shift places row r →
+    length f.order ≡ node_count middle → places ≡ places_of f.order → ListsRow f (position_of f.order row) list → HasResidual f list middle shift places row r →
     r ≡ sum_below (6 * node_count middle) (λ j. absolute (residual (test_of middle radii f shift) row j))
 residual-total middle radii f shift places list row r kept same placed lists has =
     sym has.total
@@ -92,14 +96,14 @@ beyond-refused middle radii f shift list row kept same lists beyond =
     )
 
 -- and one that is summed is not too large
-summed-small : (middle radii : Blocks) (f : Columns) (shift : ℤ) (list : List RowEntry) (sums : List Sum) (row j : ℕ) → IsFactor f → length f.order ≡ node_count middle →
+summed-small : (middle radii : Blocks) (f : Columns) (shift : ℤ) (list : List RowEntry) (sums : List GuardedSum) (row j : ℕ) → IsFactor f → length f.order ≡ node_count middle →
     ListsRow f (position_of f.order row) list → length sums ≡ 6 * length f.order → SumsRow f list sums → j < 6 * node_count middle →
     product_sizes (test_of middle radii f shift) row j <ℤ pos (2 ^ 126)
 summed-small middle radii f shift list sums row j kept same lists positions summed inside =
     let at = position_of f.order j in
     let below : position_of f.order j < length sums = omega (arith, positions, position-below f.order j kept.order (omega (arith, same))) in
     let size = summed.size (position_of f.order j) below ∙ sizes f list (position_of f.order row) (position_of f.order j) kept lists in
-    omega (arith, int_sums, size, (get_or sums (position_of f.order j) zero_sum).small)
+    omega (arith, int_sums, size, (get_or sums (position_of f.order j) zero_sum).narrow)
 
 radius-up : (radii : Blocks) (n row : ℕ) → ((i j : ℕ) → pos 0 ≤ℤ block_entry radii i j) → pos 0 ≤ℤ sum_below n (λ j. block_entry radii row j)
 radius-up radii n row up = sum_below-nonnegative n (λ j. block_entry radii row j) (λ j _. up row j)
@@ -113,7 +117,7 @@ lost-fails middle radii f shift row r up small sum lost =
 
 -- ---- the answers of the code
 pub lost-refused : (middle radii : Blocks) (f : Columns) (shift : ℕ) (places : List ℕ) (list : List RowEntry) (row : ℕ) → IsFactor f →
-    length f.order ≡ node_count middle → IsPlaces f.order places → ListsRow f (position_of f.order row) list → ((i j : ℕ) → pos 0 ≤ℤ block_entry radii i j) → shift ≤ 2 ^ 44 →
+    length f.order ≡ node_count middle → places ≡ places_of f.order → ListsRow f (position_of f.order row) list → ((i j : ℕ) → pos 0 ≤ℤ block_entry radii i j) → shift ≤ 2 ^ 44 →
     IsRowLost f list middle (pos shift) places row → RowIsRefused (test_of middle radii f (pos shift)) row
 lost-refused middle radii f shift places list row kept same placed lists up small (inl beyond) =
     beyond-refused middle radii f (pos shift) list row kept same lists beyond
@@ -121,7 +125,7 @@ lost-refused middle radii f shift places list row kept same placed lists up smal
     inr (lost-fails middle radii f shift row r up small (residual-total middle radii f (pos shift) places list row r kept same placed lists has) lost)
 
 margin-is : (middle radii : Blocks) (f : Columns) (shift : ℕ) (places : List ℕ) (list : List RowEntry) (row r radius : ℕ) → IsFactor f →
-    length f.order ≡ node_count middle → IsPlaces f.order places → ListsRow f (position_of f.order row) list → HasResidual f list middle (pos shift) places row (pos r) →
+    length f.order ≡ node_count middle → places ≡ places_of f.order → ListsRow f (position_of f.order row) list → HasResidual f list middle (pos shift) places row (pos r) →
     pos radius ≡ sum_below (6 * node_count middle) (λ j. block_entry radii row j) →
     ((pos (2 ^ 52) *ℤ pos shift) -ℤ pos r) -ℤ (pos (2 ^ 52) *ℤ pos radius) ≡ row_margin (test_of middle radii f (pos shift)) row
 margin-is middle radii f shift places list row r radius kept same placed lists has is_radius =
@@ -129,7 +133,7 @@ margin-is middle radii f shift places list row r radius kept same placed lists h
     ∙ ap (λ (z : ℤ). ((pos (2 ^ 52) *ℤ pos shift) -ℤ sum_below (6 * node_count middle) (λ j. absolute (residual (test_of middle radii f (pos shift)) row j))) -ℤ (pos (2 ^ 52) *ℤ z)) is_radius
 
 not_refused : (middle radii : Blocks) (f : Columns) (shift : ℕ) (list : List RowEntry) (row m : ℕ) → IsFactor f → length f.order ≡ node_count middle →
-    ListsRow f (position_of f.order row) list → (sums : List Sum) → length sums ≡ 6 * length f.order → SumsRow f list sums →
+    ListsRow f (position_of f.order row) list → (sums : List GuardedSum) → length sums ≡ 6 * length f.order → SumsRow f list sums →
     pos m ≡ row_margin (test_of middle radii f (pos shift)) row → 2 ^ 52 ≤ m → RowIsRefused (test_of middle radii f (pos shift)) row → ⊥
 not_refused middle radii f shift list row m kept same lists sums positions summed margin enough (inl (j, inside, large)) =
     let small = summed-small middle radii f (pos shift) list sums row j kept same lists positions summed inside in
@@ -144,7 +148,7 @@ abbrev pub JudgesRow : CholeskyTest → ℕ → Option ℕ → Type 0
 JudgesRow t row answer = MatchOption answer (RowIsRefused t row) (λ m. ((RowIsRefused t row → ⊥) × (pos m ≡ row_margin t row)) × (2 ^ 52 ≤ m))
 
 pub margin-judges : (middle radii : Blocks) (f : Columns) (shift : ℕ) (places : List ℕ) (list : List RowEntry) (row r radius : ℕ) (answer : Option ℕ) → IsFactor f →
-    length f.order ≡ node_count middle → IsPlaces f.order places → ListsRow f (position_of f.order row) list → HasResidual f list middle (pos shift) places row (pos r) →
+    length f.order ≡ node_count middle → places ≡ places_of f.order → ListsRow f (position_of f.order row) list → HasResidual f list middle (pos shift) places row (pos r) →
     pos radius ≡ sum_below (6 * node_count middle) (λ j. block_entry radii row j) →
     MatchOption answer ((((pos (2 ^ 52) *ℤ pos shift) -ℤ pos r) -ℤ (pos (2 ^ 52) *ℤ pos radius)) <ℤ pos (2 ^ 52))
     (λ m. (pos m ≡ ((pos (2 ^ 52) *ℤ pos shift) -ℤ pos r) -ℤ (pos (2 ^ 52) *ℤ pos radius)) × (2 ^ 52 ≤ m)) →
@@ -159,17 +163,17 @@ margin-judges middle radii f shift places list row r radius (Some m) kept same p
 
 -- the entries of a row are those listed at its position
 pub row-listed : (f : Columns) (lists : Lists) (row position : ℕ) (entries : List RowEntry) → IsFactor f → AreListsOf f lists → row < 6 * length f.order →
-    position ≡ freedom_at lists.places row → entries ≡ list_of lists.rows position → ListsRow f (position_of f.order row) entries
+    position ≡ freedom_at (places_of lists.order) row → entries ≡ list_of lists.rows position → ListsRow f (position_of f.order row) entries
 row-listed f lists row position entries kept listed inside is_position is_entries =
-    let at = is_position ∙ position-read f.order lists.places row listed.places inside in
+    let at = is_position ∙ position-read f.order (places_of lists.order) row (ap places_of listed.order_is) inside in
     let P : List RowEntry → Type 0 = λ xs. ListsRow f (position_of f.order row) xs in
     let there = ap (list_of lists.rows) at in
     subst P (sym (is_entries ∙ there)) (listed.rows (position_of f.order row) (position-below f.order row kept.order inside))
 
 pub position-inside : (f : Columns) (lists : Lists) (row position : ℕ) → IsFactor f → AreListsOf f lists → row < 6 * length f.order →
-    position ≡ freedom_at lists.places row → position < length lists.rows
+    position ≡ freedom_at (places_of lists.order) row → position < length lists.rows
 position-inside f lists row position kept listed inside is_position =
-    omega (arith, is_position, position-read f.order lists.places row listed.places inside, position-below f.order row kept.order inside, listed.length_same)
+    omega (arith, is_position, position-read f.order (places_of lists.order) row (ap places_of listed.order_is) inside, position-below f.order row kept.order inside, listed.length_same)
 
 -- ---- all rows
 -- the first n rows pass, and lambda is the least of their whole margins

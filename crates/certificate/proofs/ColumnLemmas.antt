@@ -7,9 +7,10 @@ use Rattle.std.proofs.lemmas.Bool.Decides.{nat_tests}
 use Rattle.int_laws.proofs.Sums.{int_sums}
 use Rattle.int_laws.proofs.Products.{mul-add, mul_comm, le_mul}
 use Rattle.int_laws.proofs.SumLaws.{sum_below-le_more}
-use Rattle.certificate.specs.declared.row_sums.Sum.{Sum}
-use Rattle.certificate.specs.QuadraticForm.{absolute}
-use Rattle.certificate.specs.RowSums.{value_at, size_at, AddsProduct, IsBeyond, column_size}
+use Rattle.flex_num.specs.declared.guarded.GuardedSum.{GuardedSum}
+use Rattle.int_laws.specs.Matrices.{absolute}
+use Rattle.certificate.specs.RowSums.{AddsProduct, IsBeyond, column_size}
+use Rattle.flex_num.specs.Guarded.{value_at, size_at}
 use Rattle.factor_data.specs.Columns.{column_part}
 
 pub part-here : (weight : ℤ → ℤ) (u : ℕ) (rows : List ℕ) (values : List ℤ) (j : ℕ) → slice_index rows u ≡ j →
@@ -28,7 +29,7 @@ pub absolute-mul : (a b : ℤ) → absolute (a *ℤ b) ≡ absolute a *ℤ absol
 absolute-mul a b = ap pos (unsigned_abs-mul a b)
 
 -- the values so far
-pub column-value : (old mid new : List Sum) (rows : List ℕ) (values : List ℤ) (factor : ℤ) (u at : ℕ) (j : ℕ) → j < length old →
+pub column-value : (old mid new : List GuardedSum) (rows : List ℕ) (values : List ℤ) (factor : ℤ) (u at : ℕ) (j : ℕ) → j < length old →
     AddsProduct mid new at (factor *ℤ slice_index_or values u (pos 0)) → slice_index rows u ≡ at →
     value_at mid j ≡ value_at old j +ℤ (factor *ℤ column_part (λ z. z) u rows values j) →
     value_at new j ≡ value_at old j +ℤ (factor *ℤ column_part (λ z. z) (u + 1) rows values j)
@@ -41,12 +42,12 @@ column-value old mid new rows values factor u at j inside adds e before =
           omega (arith, int_sums, grown, mid_at, new_at, before, adds.value, mul-add factor (column_part (λ z. z) u rows values j) (slice_index_or values u (pos 0)))
       | inr ne ↦
           let kept = ap (λ (z : ℤ). factor *ℤ z) (part-elsewhere (λ z. z) u rows values j (λ z. ne (sym z ∙ e))) in
-          let read = ap (λ (s : Sum). s.value) (adds.others j ne) in
+          let read = ap (λ (s : GuardedSum). s.value) (adds.others j ne) in
           omega (arith, int_sums, kept, read, before)
     ]
 
 -- and the sizes
-pub column-sizes : (old mid new : List Sum) (rows : List ℕ) (values : List ℤ) (factor : ℤ) (u at : ℕ) (j : ℕ) → j < length old →
+pub column-sizes : (old mid new : List GuardedSum) (rows : List ℕ) (values : List ℤ) (factor : ℤ) (u at : ℕ) (j : ℕ) → j < length old →
     AddsProduct mid new at (factor *ℤ slice_index_or values u (pos 0)) → slice_index rows u ≡ at →
     pos (size_at mid j) ≡ pos (size_at old j) +ℤ (absolute factor *ℤ column_part absolute u rows values j) →
     pos (size_at new j) ≡ pos (size_at old j) +ℤ (absolute factor *ℤ column_part absolute (u + 1) rows values j)
@@ -59,7 +60,7 @@ column-sizes old mid new rows values factor u at j inside adds e before =
           omega (arith, int_sums, grown, mid_at, new_at, before, adds.size, absolute-mul factor (slice_index_or values u (pos 0)), mul-add (absolute factor) (column_part absolute u rows values j) (absolute (slice_index_or values u (pos 0))))
       | inr ne ↦
           let kept = ap (λ (z : ℤ). absolute factor *ℤ z) (part-elsewhere absolute u rows values j (λ z. ne (sym z ∙ e))) in
-          let read = ap (λ (s : Sum). s.size) (adds.others j ne) in
+          let read = ap (λ (s : GuardedSum). s.size) (adds.others j ne) in
           omega (arith, int_sums, kept, read, before)
     ]
 
@@ -68,7 +69,7 @@ term_up rows values j v =
     elim (nat_eq (slice_index rows v) j) as (λ b. pos 0 ≤ℤ (if b then absolute (slice_index_or values v (pos 0)) else pos 0)) [ true ↦ omega (arith, int_sums) | false ↦ omega (arith, int_sums) ]
 
 -- the sizes at one position reach the limit with this place
-pub column-beyond : (old mid : List Sum) (rows : List ℕ) (values : List ℤ) (factor : ℤ) (u at : ℕ) → at < length old → u < length rows →
+pub column-beyond : (old mid : List GuardedSum) (rows : List ℕ) (values : List ℤ) (factor : ℤ) (u at : ℕ) → at < length old → u < length rows →
     slice_index rows u ≡ at →
     pos (size_at mid at) ≡ pos (size_at old at) +ℤ (absolute factor *ℤ column_part absolute u rows values at) →
     pos (2 ^ 126) ≤ℤ (pos (size_at mid at) +ℤ absolute (factor *ℤ slice_index_or values u (pos 0))) →

@@ -6,12 +6,12 @@ use Rattle.int_laws.specs.Sums.{sum_below}
 use Rattle.int_laws.proofs.Sums.{int_sums}
 use Rattle.int_laws.proofs.Products.{mul-add, sub-mul, mul-sub, mul_comm, mul_assoc, mul_swap, square_nonnegative, mul_nonnegative, le_mul, le_of_mul}
 use Rattle.int_laws.proofs.SumLaws.{sum_below-same, sum_below-le, sum_below-add, sum_below-sub, sum_below-mul}
-use Rattle.certificate.specs.QuadraticForm.{Vector, Matrix, absolute, scalar_matrix, gram, quadratic_form, squared_norm, IsSymmetric}
+use Rattle.int_laws.specs.Matrices.{Vector, Entries, absolute, scalar_matrix, gram, quadratic_form, squared_norm, IsSymmetric}
 use Rattle.certificate.specs.Definiteness.{CholeskyTest, residual, row_margin, NoRowFails, IsDefinitenessMargin, SymmetricFractions, IsWithinRadii, EachIsDefiniteWith, PassedTestIsProof}
-use Rattle.certificate.proofs.FormLaws.{form-same, form-add, form-mul, form-scalar, scalar-symmetric, form-gram, gram-symmetric, row_weighted, form-symmetric}
+use Rattle.int_laws.proofs.FormLaws.{form-same, form-add, form-mul, form-scalar, scalar-symmetric, form-gram, gram-symmetric, row_weighted, form-symmetric}
 
 -- what the shift and the square leave of a matrix of fractions: scale K - q scale mu I - q G G^T
-abbrev rest : (t : CholeskyTest) → SymmetricFractions t.size → Matrix
+abbrev rest : (t : CholeskyTest) → SymmetricFractions t.size → Entries
 rest t k i j =
     (t.scale *ℤ k.numerator i j)
     -ℤ ((k.denominator *ℤ (t.scale *ℤ scalar_matrix t.shift i j)) +ℤ (k.denominator *ℤ gram t.width t.factor i j))
@@ -30,8 +30,8 @@ parts : (t : CholeskyTest) (k : SymmetricFractions t.size) (x : Vector) →
     +ℤ (k.denominator *ℤ quadratic_form t.size (gram t.width t.factor) x))
     +ℤ quadratic_form t.size (rest t k) x
 parts t k x =
-    let shifted : Matrix = λ i j. k.denominator *ℤ (t.scale *ℤ scalar_matrix t.shift i j) in
-    let square : Matrix = λ i j. k.denominator *ℤ gram t.width t.factor i j in
+    let shifted : Entries = λ i j. k.denominator *ℤ (t.scale *ℤ scalar_matrix t.shift i j) in
+    let square : Entries = λ i j. k.denominator *ℤ gram t.width t.factor i j in
     let split = form-same t.size (λ i j. t.scale *ℤ k.numerator i j) (λ i j. (shifted i j +ℤ square i j) +ℤ rest t k i j) x
     (λ i j _ _. omega (arith, int_sums)) in
     let sums = form-add t.size (λ i j. shifted i j +ℤ square i j) (rest t k) x in

@@ -11,10 +11,10 @@ use Rattle.flex_interval.specs.Ends.{Ends}
 use Rattle.flex_interval.specs.Fraction.{Within}
 use Rattle.member_set.specs.Members.{member_of}
 use Rattle.member_set.specs.Realisation.{ExactLaw, linear, ExactMember, Realisation, IsEquilibrium, stretch, exact_reach, force_in, resistance, exact_load, displaced, fraction}
-use Rattle.certificate.specs.QuadraticForm.{Vector, Matrix, quadratic_form, squared_norm}
+use Rattle.int_laws.specs.Matrices.{Vector, Entries, quadratic_form, squared_norm}
 use Rattle.certificate.specs.Definiteness.{SymmetricFractions, IsDefiniteWith}
 use Rattle.certificate.specs.Enclosure.{member_sum, stiffness_unit, IsStiffnessMatrix, displacement_error, force_error, left_over, StiffnessMatrixExists, EquilibriaAreNear}
-use Rattle.certificate.proofs.FormLaws.{form-same, form-add, form-mul, form-column, form-none}
+use Rattle.int_laws.proofs.FormLaws.{form-same, form-add, form-mul, form-column, form-none}
 
 -- ---- sums of squares, without products of lengths
 
@@ -86,7 +86,7 @@ sum_below-ge_term (suc n) k f inside up =
     ]
 
 -- ---- the form of a sum of members: the sum over k of c_k (g_k.x)^2
-form-members : (n w : ℕ) (c : Vector) (g : Matrix) (x : Vector) →
+form-members : (n w : ℕ) (c : Vector) (g : Entries) (x : Vector) →
     quadratic_form n (λ i j. sum_below w (λ k. c k *ℤ (g k i *ℤ g k j))) x ≡ sum_below w (λ k. c k *ℤ (dot n (g k) x *ℤ dot n (g k) x))
 form-members n zero c g x = form-none n x
 form-members n (suc w) c g x =
@@ -95,7 +95,7 @@ form-members n (suc w) c g x =
     omega (arith, int_sums, parts, last, form-members n w c g x)
 
 -- the work of pulls g_k f_k on x is the sum over k of f_k (g_k.x)
-work-members : (n w : ℕ) (f : Vector) (g : Matrix) (x : Vector) →
+work-members : (n w : ℕ) (f : Vector) (g : Entries) (x : Vector) →
     dot n x (λ i. sum_below w (λ k. g k i *ℤ f k)) ≡ sum_below w (λ k. f k *ℤ dot n (g k) x)
 work-members n w f g x =
     sum_below-same n (λ i. x i *ℤ sum_below w (λ k. g k i *ℤ f k)) (λ i. sum_below w (λ k. f k *ℤ (g k i *ℤ x i)))

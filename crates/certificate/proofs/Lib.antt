@@ -1,4 +1,3 @@
-pub mod FormLaws
 pub mod DefinitenessLaw
 pub mod EnclosureLaw
 pub mod RadiusLaw

@@ -7,7 +7,7 @@ use Rattle.flex_interval.specs.Ends.{Ends}
 use Rattle.flex_interval.specs.Fraction.{Within}
 use Rattle.member_set.specs.Members.{member_of, force_of}
 use Rattle.member_set.specs.Realisation.{Realisation, force_in, displaced, fraction}
-use Rattle.certificate.specs.QuadraticForm.{Vector, squared_norm}
+use Rattle.int_laws.specs.Matrices.{Vector, squared_norm}
 use Rattle.certificate.specs.Enclosure.{stiffness_unit, residual_unit, displacement_error, force_error, left_over, IsNear, widened, alone, NearIsEnclosed}
 use Rattle.certificate.proofs.EnclosureLaw.{sum_below-ge_term, unit_positive, stiffness_not_negative}
 

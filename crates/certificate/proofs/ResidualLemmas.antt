@@ -6,13 +6,16 @@ use Rattle.int_laws.specs.Sums.{sum_below}
 use Rattle.int_laws.proofs.Sums.{int_sums}
 use Rattle.int_laws.proofs.SumLaws.{sum_below-same, sum_below-le, sum_below-sub, sum_below-le_more}
 use Rattle.sym_blocks.specs.Matrix.{Matrix as SymMatrix, entry, node_count, pattern_of, IsSymmetricByBlocks}
-use Rattle.certificate.specs.declared.row_sums.Sum.{Sum}
-use Rattle.certificate.specs.QuadraticForm.{absolute, scalar_matrix}
-use Rattle.factor_data.specs.Order.{freedom_at, IsSpread, IsOrder}
-use Rattle.certificate.specs.RowSums.{value_at, sizes_total}
+use Rattle.flex_num.specs.declared.guarded.GuardedSum.{GuardedSum}
+use Rattle.int_laws.specs.Matrices.{absolute, scalar_matrix}
+use Rattle.factor_data.specs.Order.{freedom_at}
+use Rattle.lists.specs.Order.{IsSpread, IsOrder}
+use Rattle.certificate.specs.RowSums.{sizes_total}
+use Rattle.flex_num.specs.Guarded.{value_at}
 use Rattle.certificate.specs.RowResidual.{missed, missed_total}
-use Rattle.certificate.proofs.FormLaws.{scalar-outside}
-use Rattle.factor_data.proofs.OrderLemmas.{column-below, column-apart, contained_or_not, sum-pattern}
+use Rattle.int_laws.proofs.FormLaws.{scalar-outside}
+use Rattle.factor_data.proofs.OrderLemmas.{column-below, column-apart, sum-pattern}
+use Rattle.lists.proofs.UniqueLemmas.{decide_contains}
 use Rattle.certificate.proofs.PatternLemmas.{pattern-spread}
 
 -- the node of a pattern's column is in the pattern
@@ -44,11 +47,11 @@ only-le nodes f c (inr none) up = up
 pub sum-pattern-le : (nodes : List ℕ) (n : ℕ) (f : ℕ → ℤ) → IsSpread nodes n → ((c : ℕ) → pos 0 ≤ℤ f c) →
     sum_below (6 * length nodes) (λ s. f (freedom_at nodes s)) ≤ℤ sum_below (6 * n) f
 sum-pattern-le nodes n f spread up =
-    let part = λ (c : ℕ). only nodes f c (contained_or_not nodes (c / 6)) in
+    let part = λ (c : ℕ). only nodes f c (decide_contains nodes (c / 6)) in
     let terms = sum_below-same (6 * length nodes) (λ s. part (freedom_at nodes s)) (λ s. f (freedom_at nodes s))
-    (λ s h. only-inside nodes f (freedom_at nodes s) (contained_or_not nodes (freedom_at nodes s / 6)) (node-contained nodes s h)) in
-    let whole = sum-pattern nodes n part spread (λ j _ none. only-outside nodes f j (contained_or_not nodes (j / 6)) none) in
-    let less = sum_below-le (6 * n) part f (λ c _. only-le nodes f c (contained_or_not nodes (c / 6)) (up c)) in
+    (λ s h. only-inside nodes f (freedom_at nodes s) (decide_contains nodes (freedom_at nodes s / 6)) (node-contained nodes s h)) in
+    let whole = sum-pattern nodes n part spread (λ j _ none. only-outside nodes f j (decide_contains nodes (j / 6)) none) in
+    let less = sum_below-le (6 * n) part f (λ c _. only-le nodes f c (decide_contains nodes (c / 6)) (up c)) in
     omega (arith, int_sums, terms, whole, less)
 
 -- ---- positions of a pattern's columns
@@ -61,7 +64,7 @@ pub positions-apart : (order : List ℕ) (n a b : ℕ) → IsOrder order → len
 positions-apart order n a b ordered same pa pb e = column-apart order (length order) a b ordered.spread (omega (arith, same)) (omega (arith, same)) e
 
 -- ---- one column more is taken
-pub taken-step : (order nodes : List ℕ) (n s : ℕ) (old mid new : List Sum) → IsOrder order → length order ≡ n → IsSpread nodes n → s < 6 * length nodes →
+pub taken-step : (order nodes : List ℕ) (n s : ℕ) (old mid new : List GuardedSum) → IsOrder order → length order ≡ n → IsSpread nodes n → s < 6 * length nodes →
     value_at new (freedom_at order (freedom_at nodes s)) ≡ pos 0 → ((j : ℕ) → (j ≡ freedom_at order (freedom_at nodes s) → ⊥) → value_at new j ≡ value_at mid j) →
     ((u : ℕ) → u < s → value_at mid (freedom_at order (freedom_at nodes u)) ≡ pos 0) →
     (u : ℕ) → u < s + 1 → value_at new (freedom_at order (freedom_at nodes u)) ≡ pos 0
@@ -75,7 +78,7 @@ taken-step order nodes n s old mid new ordered same spread inside here others ta
           ]
     ]
 
-pub others-step : (order nodes : List ℕ) (s : ℕ) (old mid new : List Sum) →
+pub others-step : (order nodes : List ℕ) (s : ℕ) (old mid new : List GuardedSum) →
     ((j : ℕ) → (j ≡ freedom_at order (freedom_at nodes s) → ⊥) → value_at new j ≡ value_at mid j) →
     ((j : ℕ) → ((u : ℕ) → u < s → freedom_at order (freedom_at nodes u) ≢ j) → value_at mid j ≡ value_at old j) →
     (j : ℕ) → ((u : ℕ) → u < s + 1 → freedom_at order (freedom_at nodes u) ≢ j) → value_at new j ≡ value_at old j
@@ -83,7 +86,7 @@ others-step order nodes s old mid new others before j apart =
     others j (λ e. apart s (omega arith) (sym e)) ∙ before j (λ u h. apart u (omega arith))
 
 -- the sum taken is still the first one
-pub taken-first : (order nodes : List ℕ) (n s : ℕ) (old mid : List Sum) → IsOrder order → length order ≡ n → IsSpread nodes n → s < 6 * length nodes →
+pub taken-first : (order nodes : List ℕ) (n s : ℕ) (old mid : List GuardedSum) → IsOrder order → length order ≡ n → IsSpread nodes n → s < 6 * length nodes →
     ((j : ℕ) → ((u : ℕ) → u < s → freedom_at order (freedom_at nodes u) ≢ j) → value_at mid j ≡ value_at old j) →
     value_at mid (freedom_at order (freedom_at nodes s)) ≡ value_at old (freedom_at order (freedom_at nodes s))
 taken-first order nodes n s old mid ordered same spread inside before =
@@ -94,7 +97,7 @@ taken-first order nodes n s old mid ordered same spread inside before =
     omega arith))
 
 -- ---- the whole row
-outside-missed : (m : SymMatrix) (shift : ℤ) (order : List ℕ) (sums : List Sum) (row c : ℕ) → IsSymmetricByBlocks m → row < 6 * node_count m →
+outside-missed : (m : SymMatrix) (shift : ℤ) (order : List ℕ) (sums : List GuardedSum) (row c : ℕ) → IsSymmetricByBlocks m → row < 6 * node_count m →
     (Contains (pattern_of m (row / 6)) (c / 6) → ⊥) → absolute (missed m shift order sums row c) ≡ absolute (value_at sums (freedom_at order c))
 outside-missed m shift order sums row c kept inside none =
     let zero_entry = kept.outside row c none in
@@ -107,7 +110,7 @@ outside-missed m shift order sums row c kept inside none =
 pub nodes-spread : (m : SymMatrix) (nodes : List ℕ) (n : ℕ) → IsSymmetricByBlocks m → nodes ≡ pattern_of m n → IsSpread nodes (node_count m)
 nodes-spread m nodes n kept e = let P : List ℕ → Type 0 = λ xs. IsSpread xs (node_count m) in subst P (sym e) (pattern-spread m n kept)
 
-pub missed-whole : (m : SymMatrix) (nodes : List ℕ) (shift : ℤ) (order : List ℕ) (old new : List Sum) (row s : ℕ) (total : ℤ) → IsSymmetricByBlocks m →
+pub missed-whole : (m : SymMatrix) (nodes : List ℕ) (shift : ℤ) (order : List ℕ) (old new : List GuardedSum) (row s : ℕ) (total : ℤ) → IsSymmetricByBlocks m →
     nodes ≡ pattern_of m (row / 6) → row < 6 * node_count m → IsOrder order → length order ≡ node_count m → length new ≡ 6 * node_count m → 6 * length nodes ≤ s → s ≤ 6 * length nodes →
     total ≡ sum_below s (λ u. absolute (missed m shift order old row (freedom_at nodes u))) →
     ((u : ℕ) → u < s → value_at new (freedom_at order (freedom_at nodes u)) ≡ pos 0) →
@@ -139,7 +142,7 @@ missed-whole m nodes shift order old new row s total kept listed inside ordered 
     omega (arith, int_sums, sum, at_end, outside, terms, apart, placed, counted, counted', size)
 
 -- a part of what a row misses
-pub missed-part : (m : SymMatrix) (nodes : List ℕ) (shift : ℤ) (order : List ℕ) (old : List Sum) (row s : ℕ) → IsSymmetricByBlocks m → nodes ≡ pattern_of m (row / 6) →
+pub missed-part : (m : SymMatrix) (nodes : List ℕ) (shift : ℤ) (order : List ℕ) (old : List GuardedSum) (row s : ℕ) → IsSymmetricByBlocks m → nodes ≡ pattern_of m (row / 6) →
     s < 6 * length nodes →
     sum_below (s + 1) (λ u. absolute (missed m shift order old row (freedom_at nodes u))) ≤ℤ missed_total m shift order old row
 missed-part m nodes shift order old row s kept listed inside =
@@ -149,7 +152,7 @@ missed-part m nodes shift order old row s kept listed inside =
     omega (arith, int_sums, more, whole)
 
 -- the total with one column more
-pub missed-more : (m : SymMatrix) (nodes : List ℕ) (shift : ℤ) (order : List ℕ) (old mid : List Sum) (row s : ℕ) (total : ℤ) → IsSymmetricByBlocks m →
+pub missed-more : (m : SymMatrix) (nodes : List ℕ) (shift : ℤ) (order : List ℕ) (old mid : List GuardedSum) (row s : ℕ) (total : ℤ) → IsSymmetricByBlocks m →
     nodes ≡ pattern_of m (row / 6) → IsOrder order → length order ≡ node_count m → s < 6 * length nodes →
     ((j : ℕ) → ((u : ℕ) → u < s → freedom_at order (freedom_at nodes u) ≢ j) → value_at mid j ≡ value_at old j) →
     total ≡ sum_below s (λ u. absolute (missed m shift order old row (freedom_at nodes u))) →

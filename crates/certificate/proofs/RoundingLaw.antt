@@ -12,7 +12,7 @@ use Rattle.flex_interval.specs.Ends.{Ends}
 use Rattle.flex_interval.specs.Fraction.{Within}
 use Rattle.member_set.specs.Members.{member_of}
 use Rattle.member_set.specs.Realisation.{fraction}
-use Rattle.certificate.specs.QuadraticForm.{squared_norm}
+use Rattle.int_laws.specs.Matrices.{squared_norm}
 use Rattle.certificate.specs.Enclosure.{residual_unit, left_over, greater_size, SizesGiveLength, force_radius_of, RoundedRadiiAreEnough}
 use Rattle.certificate.proofs.RadiusLaw.{square-neg}
 

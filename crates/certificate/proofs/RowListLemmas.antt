@@ -8,9 +8,10 @@ use Rattle.int_laws.proofs.Sums.{int_sums}
 use Rattle.int_laws.proofs.Products.{add-mul}
 use Rattle.int_laws.proofs.SumLaws.{sum_below-same}
 use Rattle.certificate.specs.declared.row_lists.RowEntry.{RowEntry}
-use Rattle.certificate.specs.QuadraticForm.{Vector}
+use Rattle.int_laws.specs.Matrices.{Vector}
 use Rattle.factor_data.specs.Columns.{column_part}
-use Rattle.certificate.specs.RowLists.{no_entry, row_product, list_of}
+use Rattle.certificate.specs.RowLists.{no_entry, row_product}
+use Rattle.lists.specs.Lists.{list_of}
 use Rattle.certificate.proofs.ColumnLemmas.{part-here, part-elsewhere}
 
 row_product-push : (weight : ℤ → ℤ) (list : List RowEntry) (e : RowEntry) (x : Vector) →

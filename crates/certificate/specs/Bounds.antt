@@ -10,7 +10,7 @@ use Rattle.member_set.specs.Members.{nothing, member_of, force_of, row_count}
 use Rattle.member_set.specs.Realisation.{Realisation, force_in, fraction, force_fraction}
 use Rattle.member_set.specs.Interval.{Outcome, forces_of, residual_of}
 use Rattle.certificate.specs.declared.bounds.Enclosure.{Enclosure}
-use Rattle.certificate.specs.QuadraticForm.{Vector, squared_norm}
+use Rattle.int_laws.specs.Matrices.{Vector, squared_norm}
 use Rattle.certificate.specs.Definiteness.{SymmetricFractions, IsDefiniteWith}
 use Rattle.certificate.specs.Enclosure.{IsStiffnessMatrix, widened, alone, greater_size, displacement_radius_of, force_radius_of}
 

@@ -6,7 +6,7 @@ use Rattle.factor_data.specs.Order.{position_of}
 use Rattle.factor_data.specs.Columns.{Columns, entry}
 use Rattle.certificate.specs.declared.check.Verdict.{Verdict}
 use Rattle.certificate.specs.declared.check.Verdict.TheVariants.{Yes, No}
-use Rattle.certificate.specs.QuadraticForm.{Matrix, absolute}
+use Rattle.int_laws.specs.Matrices.{Entries, absolute}
 use Rattle.certificate.specs.Definiteness.{CholeskyTest, RowFails, IsDefinitenessMargin, EachIsDefiniteWith}
 
 -- the test of a middle matrix and radii by a factor: its rows are those of the matrices, and its products have the scale 2^52
@@ -23,7 +23,7 @@ test_of middle radii factor shift =
     }
 
 -- the sum over the columns of |g_ik g_jk|
-abbrev pub product_sizes : CholeskyTest → Matrix
+abbrev pub product_sizes : CholeskyTest → Entries
 product_sizes t i j = sum_below t.width (λ k. absolute (t.factor i k *ℤ t.factor j k))
 
 -- row i is refused: its products with some row are too large to be summed, or it fails

@@ -6,22 +6,22 @@
 use Rattle.std.specs.Prelude.{ℕ, ℤ, pos, ◌-ℤ◌, ◌*ℤ◌, ◌≤ℤ◌, ◌<ℤ◌, ◌≡◌, ◌<◌}
 use Rattle.std.specs.Int.{int_div_euclid}
 use Rattle.int_laws.specs.Sums.{sum_below}
-use Rattle.certificate.specs.QuadraticForm.{Vector, Matrix, absolute, scalar_matrix, gram, quadratic_form, squared_norm, IsSymmetric}
+use Rattle.int_laws.specs.Matrices.{Vector, Entries, absolute, scalar_matrix, gram, quadratic_form, squared_norm, IsSymmetric}
 
 -- what the test is of; all matrices have `size` rows, and the factor `width` columns
 pub record CholeskyTest : Type 0 where
   -- the interval matrix: the middle and the radius of each entry
   pub size : ℕ
-  pub middle : Matrix
-  pub radius : Matrix
+  pub middle : Entries
+  pub radius : Entries
   -- G G^T is to be about `scale` times the middle matrix less `shift` on its diagonal
   pub width : ℕ
-  pub factor : Matrix
+  pub factor : Entries
   pub shift : ℤ
   pub scale : ℤ
 
 -- scale (Km - mu I) - G G^T
-abbrev pub residual : CholeskyTest → Matrix
+abbrev pub residual : CholeskyTest → Entries
 residual t i j = (t.scale *ℤ (t.middle i j -ℤ scalar_matrix t.shift i j)) -ℤ gram t.width t.factor i j
 
 -- by how much `scale` times the shift exceeds all that row i can lose to the residual and to the radii
@@ -44,7 +44,7 @@ pub record IsDefinitenessMargin (t : CholeskyTest) (lambda : ℤ) : Type 0 where
 
 -- a symmetric matrix of fractions, `numerator i j / denominator`
 pub record SymmetricFractions (size : ℕ) : Type 0 where
-  pub numerator : Matrix
+  pub numerator : Entries
   pub denominator : ℤ
   pub positive : pos 0 <ℤ denominator
   pub symmetric : IsSymmetric size numerator

@@ -14,13 +14,13 @@ use Rattle.member_set.specs.declared.members.Law.{Law}
 use Rattle.member_set.specs.declared.members.Built.{Built}
 use Rattle.member_set.specs.Members.{member_of, force_of}
 use Rattle.member_set.specs.Realisation.{Realisation, IsRealisation, IsEquilibrium, force_in, exact_residual, displaced, fraction, force_fraction}
-use Rattle.certificate.specs.QuadraticForm.{Vector, Matrix, absolute, squared_norm}
+use Rattle.int_laws.specs.Matrices.{Vector, Entries, absolute, squared_norm}
 use Rattle.certificate.specs.Definiteness.{SymmetricFractions, IsDefiniteWith}
 
 -- ---- the stiffness of a realisation
 
 -- the sum over the members of K W_i W_j
-abbrev pub member_sum : Realisation → Matrix
+abbrev pub member_sum : Realisation → Entries
 member_sum r i j = sum_below r.members (λ k. (r.member k).stiffness *ℤ ((r.member k).shape i *ℤ (r.member k).shape j))
 
 -- 2^112 q^3: a product of a stiffness and two shape numbers is so many times its value in 2^-20 N/m

@@ -1,11 +1,9 @@
-pub mod QuadraticForm
 pub mod Definiteness
 pub mod Enclosure
 pub mod Bounds
 pub mod Widening
 pub mod RowSums
 pub mod RowLists
-pub mod Places
 pub mod RowResidual
 pub mod Space
 pub mod Checker

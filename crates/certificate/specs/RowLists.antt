@@ -1,11 +1,13 @@
 -- The entries of a factor row by row, where the factor is kept by columns.
 use Rattle.std.specs.Prelude.{ℕ, ◌*◌, ◌^◌, ◌<◌, ◌≡◌, ℤ, pos, ◌+ℤ◌, ◌*ℤ◌, ◌≤ℤ◌, List, [], length, slice_index_or}
 use Rattle.int_laws.specs.Sums.{sum_below}
+use Rattle.lists.specs.Lists.{list_of}
 use Rattle.certificate.specs.declared.row_lists.RowEntry.{RowEntry}
-use Rattle.certificate.specs.QuadraticForm.{Vector, absolute}
+use Rattle.int_laws.specs.Matrices.{Vector, absolute}
 use Rattle.factor_data.specs.Columns.{Columns, column_rows, column_values, column_entry}
-use Rattle.certificate.specs.declared.row_sums.Sum.{Sum}
-use Rattle.certificate.specs.RowSums.{value_at, size_at, column_size}
+use Rattle.flex_num.specs.declared.guarded.GuardedSum.{GuardedSum}
+use Rattle.certificate.specs.RowSums.{column_size}
+use Rattle.flex_num.specs.Guarded.{value_at, size_at}
 
 abbrev pub no_entry : RowEntry
 no_entry = record { column = 0; value = pos 0 }
@@ -18,10 +20,6 @@ row_part weight entries list x =
 -- the whole row times x
 abbrev pub row_product : (ℤ → ℤ) → List RowEntry → Vector → ℤ
 row_product weight list x = row_part weight (length list) list x
-
--- the list of row i
-abbrev pub list_of : List (List RowEntry) → ℕ → List RowEntry
-list_of lists i = slice_index_or lists i []
 
 -- each row's list has the column's entry there besides
 pub record ListsColumn (old new : List (List RowEntry)) (column : ℕ) (rows : List ℕ) (values : List ℤ) : Type 0 where
@@ -37,7 +35,7 @@ pub record ListsRow (f : Columns) (i : ℕ) (list : List RowEntry) : Type 0 wher
   pub size : (x : Vector) → row_product absolute list x ≡ sum_below (6 * length f.order) (λ k. column_size (column_rows f k) (column_values f k) i *ℤ x k)
 
 -- the sums are the row's products with every row
-pub record SumsRow (f : Columns) (list : List RowEntry) (sums : List Sum) : Type 0 where
+pub record SumsRow (f : Columns) (list : List RowEntry) (sums : List GuardedSum) : Type 0 where
   pub value : (j : ℕ) → j < length sums → value_at sums j ≡ row_product (λ z. z) list (λ k. column_entry (column_rows f k) (column_values f k) j)
   pub size : (j : ℕ) → j < length sums → pos (size_at sums j) ≡ row_product absolute list (λ k. column_size (column_rows f k) (column_values f k) j)
 

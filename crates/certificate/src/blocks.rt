@@ -1,9 +1,11 @@
 ghost use Rattle.std.specs.Prelude.{◌≡◌, ℕ, ◌+◌, ◌*◌, ◌/◌, ◌^◌, ◌<◌, ◌≤◌, ℤ, pos, ◌-ℤ◌, ◌+ℤ◌, ◌*ℤ◌, ◌≤ℤ◌, ◌<ℤ◌, unsigned_abs, length, All, IfSome, IsNone};
 ghost use Rattle.int_laws.specs.Sums.{sum_below};
 ghost use Rattle.sym_blocks.specs.Matrix.{entry, node_count};
-ghost use Rattle.certificate.specs.QuadraticForm.{scalar_matrix};
-ghost use Rattle.factor_data.specs.Order.{freedom_at, IsOrder};
-ghost use Rattle.certificate.specs.RowSums.{value_at, sizes_total};
+ghost use Rattle.int_laws.specs.Matrices.{scalar_matrix};
+ghost use Rattle.factor_data.specs.Order.{freedom_at};
+ghost use Rattle.lists.specs.Order.{IsOrder};
+ghost use Rattle.certificate.specs.RowSums.{sizes_total};
+ghost use Rattle.flex_num.specs.Guarded.{value_at};
 ghost use Rattle.certificate.specs.RowResidual.{missed, missed_total};
 
 use crate::margin::SCALE;

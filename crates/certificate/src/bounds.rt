@@ -3,7 +3,7 @@ ghost use Rattle.flex_interval.specs.Ends.{Ends};
 ghost use Rattle.member_set.specs.Members.{IsBuilt, FitsBuilt, IsModerate, row_count, member_of, force_of, nothing};
 ghost use Rattle.member_set.specs.Realisation.{Realisation, IsRealisation, IsEquilibrium};
 ghost use Rattle.member_set.specs.Interval.{AreForces, residual_of};
-ghost use Rattle.certificate.specs.QuadraticForm.{Vector};
+ghost use Rattle.int_laws.specs.Matrices.{Vector};
 ghost use Rattle.certificate.specs.Enclosure.{IsResidualLength, AreForcesWithin, widened, alone, force_radius_of};
 ghost use Rattle.certificate.specs.Bounds.{AreStiff, IsDefiniteRealisation, HasResiduals, length_of, sum_of_squares, AreBounds, HasNoBounds, EnclosesEquilibrium};
 ghost use Rattle.certificate.specs.Widening.{AreLimited, AreWidened, AreAroundDisplacements, IsTooUnsteady, only};
@@ -11,7 +11,8 @@ ghost use Rattle.certificate.specs.Widening.{AreLimited, AreWidened, AreAroundDi
 use crate::fault::EncloseFault;
 use crate::radii::{displacement_radius, force_radius, plus_square, root_of_squares, widened};
 use flex_interval::{Iv, Wide, point};
-use member_set::{Built, Law, Sequence, member_forces, residual_from};
+use lists::Sequence;
+use member_set::{Built, Law, member_forces, residual_from};
 use std::alloc::Global;
 
 /// Bounds of every equilibrium of a structure under loads.

@@ -2,7 +2,7 @@ ghost use Rattle.std.specs.Prelude.{◌≡◌, ℕ, ◌*◌, ◌^◌, ◌<◌, �
 ghost use Rattle.certificate.specs.RowSums.{IsClear};
 ghost use Rattle.certificate.specs.RowLists.{SumsRow, IsRowBeyond};
 ghost use Rattle.sym_blocks.specs.Matrix.{node_count, entry};
-ghost use Rattle.factor_data.specs.Order.{IsOrder};
+ghost use Rattle.lists.specs.Order.{IsOrder};
 ghost use Rattle.factor_data.specs.Columns.{IsFactor};
 ghost use Rattle.certificate.specs.RowResidual.{HasResidual, IsRowLost};
 ghost use Rattle.certificate.specs.Definiteness.{row_margin};
@@ -96,14 +96,14 @@ fn row_margin(
         MatchOption result (RowIsRefused t row) (λ m. ((RowIsRefused t row → ⊥) × (pos m ≡ row_margin t row)) × (2 ^ 52 ≤ m)) }
     ensures kept { space.new ≡ space.old }
 {
-    let position = freedom_at(&space.places, row as usize);
+    let position = freedom_at(space.order.places(), row as usize);
     let entries = space.rows[position as usize].as_slice();
     let residual = residual_size(
         middle,
         shift,
         g,
         entries,
-        &space.places,
+        space.order.places(),
         row,
         &mut space.sums,
     )?;

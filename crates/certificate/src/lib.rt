@@ -10,7 +10,6 @@ mod bounds;
 mod check;
 mod fault;
 mod margin;
-mod places;
 mod radii;
 mod row_lists;
 mod row_sums;

@@ -1,8 +1,8 @@
-ghost use Rattle.std.specs.Prelude.{◌≡◌, ◌<◌, length, All, OnOk, OnErr, List, [], ◌∷◌, ◌++◌};
+ghost use Rattle.std.specs.Prelude.{◌≡◌, ◌<◌, length, All, OnOk};
 ghost use Rattle.certificate.specs.RowLists.{ListsColumn};
 
-use std::alloc::{AllocError, Global};
-use std::marker::Model;
+use lists::Sequence;
+use std::alloc::AllocError;
 
 /// A column with an entry in a row, and that entry.
 #[derive(Clone, Copy)]
@@ -11,49 +11,9 @@ pub struct RowEntry {
     pub value: i64,
 }
 
-/// The entries of one row of a factor.
-#[derive(Drop)]
-pub struct RowList {
-    entries: Vec<RowEntry>,
-}
-
-impl Model for RowList {
-    ghost use Rattle.std.specs.Prelude.{List};
-    ghost use Rattle.certificate.specs.declared.row_lists.RowEntry.{RowEntry};
-
-    ghost Value = { List RowEntry };
-
-    ghost view = { λ r. r.entries.items };
-}
-
-impl RowList {
-    pub fn new(alloc: Global) -> Self
-        ensures { result ≡ [] }
-    {
-        RowList {
-            entries: Vec::new(alloc),
-        }
-    }
-
-    fn push(&mut self, entry: RowEntry) -> Result<(), AllocError>
-        ensures ok { OnOk result (self.new ≡ self.old ++ entry ∷ []) }
-        ensures err { OnErr result (self.new ≡ self.old) }
-    {
-        self.entries.push(entry)?;
-        Ok(())
-    }
-
-    /// The entries, by rising column.
-    pub fn as_slice(&self) -> &[RowEntry]
-        ensures { result.now ≡ self.now }
-    {
-        self.entries.as_slice()
-    }
-}
-
 /// Puts each entry of a column into the list of its row.
 pub fn list_column(
-    lists: &mut [RowList],
+    lists: &mut [Sequence<RowEntry>],
     column: u32,
     rows: &[u32],
     values: &[i64],

@@ -1,39 +1,8 @@
 ghost use Rattle.std.specs.Prelude.{◌≡◌, ℕ, ◌+◌, ◌^◌, ◌<◌, ◌≤◌, ◌↔◌, ℤ, pos, ◌+ℤ◌, ◌*ℤ◌, ◌≤ℤ◌, unsigned_abs, length, All, IsTrue, IsNone, IfSome, OnSome, IfOk, MatchOption, vec_len, vec_capacity, false, [], ◌∷◌, ◌++◌, List};
 
+use flex_num::{GUARD, GuardedSum};
 use std::alloc::{AllocError, Global};
 use std::marker::Model;
-
-/// What is summed of one row stays below this.
-pub const LIMIT: u128 = 1 << 126;
-
-/// A sum of products, and the sum of their sizes.
-#[derive(Clone, Copy)]
-pub struct Sum {
-    value: i128,
-    size: u128,
-    ghost bounded: { unsigned_abs value ≤ size },
-    ghost small: { size < 2 ^ 126 },
-}
-
-impl Sum {
-    const ZERO: Sum = Sum { value: 0, size: 0 };
-
-    /// With one more product; `None` where the sizes reach the limit.
-    fn plus(self, product: i128) -> Option<Self>
-        ensures value { IfSome result (λ s. s.value ≡ self.value +ℤ product) }
-        ensures size { IfSome result (λ s. s.size ≡ self.size + unsigned_abs product) }
-        ensures limit { IsNone result ↔ (2 ^ 126 ≤ self.size + unsigned_abs product) }
-    {
-        let size = self.size + product.unsigned_abs();
-        if size >= LIMIT {
-            return None;
-        }
-        Some(Sum {
-            value: self.value + product,
-            size,
-        })
-    }
-}
 
 /// The product of two entries of a factor.
 fn product(a: i64, b: i64) -> i128
@@ -49,7 +18,7 @@ pub fn with_size(total: u128, term: i128) -> Option<u128>
     ensures { MatchOption result (2 ^ 126 ≤ total + unsigned_abs term) (λ t. (t ≡ total + unsigned_abs term) × (t < 2 ^ 126)) }
 {
     let sum = total + term.unsigned_abs();
-    if sum >= LIMIT { None } else { Some(sum) }
+    if sum >= GUARD { None } else { Some(sum) }
 }
 
 /// Notes a position whose sum has no term yet.
@@ -67,17 +36,17 @@ fn note(touched: &mut Vec<u32>, at: u32, size: u128)
 /// The sums of one row, one for each position, and the positions that have one, so that only these are cleared.
 #[derive(Drop)]
 pub struct RowSums {
-    sums: Vec<Sum>,
+    sums: Vec<GuardedSum>,
     touched: Vec<u32>,
 }
 
 impl Model for RowSums {
     ghost use Rattle.std.specs.Prelude.{List};
     ghost use Rattle.std.specs.Vec.{vec_capacity};
-    ghost use Rattle.certificate.specs.declared.row_sums.Sum.{Sum};
+    ghost use Rattle.flex_num.specs.declared.guarded.GuardedSum.{GuardedSum};
     ghost use Rattle.certificate.specs.RowSums.{IsTracked};
 
-    ghost Value = { List Sum };
+    ghost Value = { List GuardedSum };
 
     ghost view = { λ r. r.sums.items };
 
@@ -85,13 +54,14 @@ impl Model for RowSums {
 }
 
 impl RowSums {
-    ghost use Rattle.certificate.specs.RowSums.{value_at, size_at, sizes_total, IsClear, AddsProduct, AddsColumn, IsBeyond};
+    ghost use Rattle.flex_num.specs.Guarded.{value_at, size_at};
+    ghost use Rattle.certificate.specs.RowSums.{sizes_total, IsClear, AddsProduct, AddsColumn, IsBeyond};
 
     /// So many sums, all 0.
     pub fn new(alloc: Global, positions: usize) -> Result<Self, AllocError>
         ensures { IfOk result (λ r. (length r ≡ positions) × IsClear r) }
     {
-        let sums = vec![in alloc; Sum::ZERO; positions]?;
+        let sums = vec![in alloc; GuardedSum::ZERO; positions]?;
         let touched = Vec::with_capacity(alloc, positions)?;
         Ok(RowSums { sums, touched })
     }
@@ -139,10 +109,7 @@ impl RowSums {
         ensures others { (j : ℕ) → (j ≡ at → ⊥) → value_at self.new j ≡ value_at self.old j }
     {
         let sum = self.sums[at as usize];
-        self.sums[at as usize] = Sum {
-            value: 0,
-            size: sum.size,
-        };
+        self.sums[at as usize] = sum.emptied();
         sum.value
     }
 
@@ -152,7 +119,7 @@ impl RowSums {
         ensures clear { IsClear self.new }
     {
         while let Some(at) = self.touched.pop() {
-            self.sums[at as usize] = Sum::ZERO;
+            self.sums[at as usize] = GuardedSum::ZERO;
         }
     }
 
@@ -166,7 +133,7 @@ impl RowSums {
     {
         while let Some(at) = self.touched.pop() {
             let value = self.sums[at as usize].value;
-            self.sums[at as usize] = Sum::ZERO;
+            self.sums[at as usize] = GuardedSum::ZERO;
             total = with_size(total, value)?;
         }
         Some(total)

@@ -8,7 +8,8 @@ use Rattle.std.proofs.lemmas.List.Elements.{All-contains}
 use Rattle.int_laws.specs.Sums.{sum_below}
 use Rattle.int_laws.proofs.Sums.{int_sums}
 use Rattle.int_laws.proofs.SumLaws.{sum_below-nonnegative}
-use Rattle.lists.specs.Rising.{IsRising, place_of}
+use Rattle.lists.specs.Rising.{IsRising}
+use Rattle.lists.specs.Order.{place_of}
 use Rattle.lists.proofs.PlaceLemmas.{place_of-at}
 use Rattle.cholesky_laws.specs.Elimination.{parent_of}
 use Rattle.cholesky_laws.specs.Breakdown.{Passes, squares}

@@ -7,7 +7,8 @@ use Rattle.std.proofs.lemmas.List.{get_or-set_same, get_or-set_other, get_or_pas
 use Rattle.int_laws.proofs.Sums.{int_sums}
 use Rattle.int_laws.proofs.Products.{zero-mul}
 use Rattle.int_laws.proofs.SumLaws.{sum_below-same, sum_below-zero}
-use Rattle.lists.specs.Rising.{IsRising, place_of}
+use Rattle.lists.specs.Rising.{IsRising}
+use Rattle.lists.specs.Order.{place_of}
 use Rattle.lists.proofs.PlaceLemmas.{place_of-at, at_place_of}
 use Rattle.factor.specs.Panel.{kept_for, dot_of}
 use Rattle.factor.specs.Gather.{products_at, entry_products, block_product, UpdatesBlock}

@@ -7,7 +7,8 @@ use Rattle.int_laws.specs.Sums.{sum_below}
 use Rattle.int_laws.proofs.Sums.{int_sums}
 use Rattle.int_laws.proofs.Products.{mul_comm, zero-mul}
 use Rattle.int_laws.proofs.SumLaws.{sum_below-same, sum_below-zero}
-use Rattle.lists.specs.Rising.{IsRising, place_of}
+use Rattle.lists.specs.Rising.{IsRising}
+use Rattle.lists.specs.Order.{place_of}
 use Rattle.lists.proofs.PlaceLemmas.{place_of-at, place_of-absent, at_place_of}
 use Rattle.sym_blocks.specs.Matrix.{Matrix, HasBlock, IsSymmetricByBlocks, entry as stiffness}
 use Rattle.cholesky_laws.specs.Recurrence.{cholesky, left_after, scaled, freedom_at}

@@ -2,14 +2,12 @@ pub mod CastLemmas
 pub mod EntryLemmas
 pub mod EliminateLemmas
 pub mod GatherLemmas
-pub mod FrontLemmas
 pub mod SquaresLemmas
 pub mod GapLemmas
 pub mod LeftLemmas
 pub mod UserLemmas
 pub mod ChildLemmas
 pub mod NearLemmas
-pub mod ListLemmas
 pub mod NodeLemmas
 pub mod ColumnLemmas
 pub mod StepLemmas

@@ -2,10 +2,11 @@
 use Rattle.std.proofs.Common.{◌≡◌, ℕ, ◌<◌, ◌≤◌, List, [], ◌∷◌, ◌++◌, Option, Some, None, length, get_or, map, Contains, All, ◌⊎◌, inl, inr, ◌∙◌, sym, ap, arith, subst, refl, ◌↔◌, ℤ, IfSome}
 use Rattle.std.proofs.lemmas.List.{get_or_default, get_or-map, length-map}
 use Rattle.std.proofs.lemmas.List.Elements.{Contains-get_or, Contains-push_cases, All-contains}
-use Rattle.lists.specs.Rising.{IsRising}
+use Rattle.lists.specs.Rising.{IsRising, InsertsLater}
+use Rattle.lists.specs.Order.{place_of}
+use Rattle.lists.proofs.PlaceLemmas.{place-found, place-at}
 use Rattle.sym_blocks.specs.Matrix.{Matrix, pattern_of, IsSymmetricByBlocks}
 use Rattle.cholesky_laws.specs.Elimination.{parent_of}
-use Rattle.factor.specs.Front.{InsertsLater}
 use Rattle.factor.specs.State.{IsProblem, IsFront, IsWithParent, AreParents, nodes_at}
 use Rattle.factor.specs.declared.panel.Panel.{Panel}
 
@@ -19,11 +20,11 @@ parent_bounds parents size n u later in' is =
     subst P is (later n in')
 
 -- the places of a node's neighbours
-pub near_front : (k : Matrix) (order places : List ℕ) (parents : List (Option ℕ)) (shift : ℤ) (n : ℕ) (start found nodes : List ℕ) → IsProblem k order places parents shift → n < length order → IsSymmetricByBlocks k → IsWithParent parents n start → found ≡ map (λ m. get_or places m 0) (pattern_of k (get_or order n 0)) → InsertsLater start nodes found n → IsFront k order parents [] [] n nodes
-near_front k order places parents shift n start found nodes p in' kept with is inserted =
+pub near_front : (k : Matrix) (order : List ℕ) (parents : List (Option ℕ)) (shift : ℤ) (n : ℕ) (start found nodes : List ℕ) → IsProblem k order parents shift → n < length order → IsSymmetricByBlocks k → IsWithParent parents n start → found ≡ map (λ m. place_of m order) (pattern_of k (get_or order n 0)) → InsertsLater start nodes found n → IsFront k order parents [] [] n nodes
+near_front k order parents shift n start found nodes p in' kept with is inserted =
     let size = length order in
     let pattern = pattern_of k (get_or order n 0) in
-    let place = λ (m : ℕ). get_or places m 0 in
+    let place = λ (m : ℕ). place_of m order in
     let listed : (x : ℕ) → Contains found x → (m : ℕ) × Contains pattern m × (place m ≡ x) =
     λ x (v, vl, at).
     let len = ap length is ∙ length-map pattern place in
@@ -45,16 +46,14 @@ near_front k order places parents shift n start found nodes p in' kept with is i
             | inr (new, above) ↦
                 let m = listed x new in
                 let m-in = kept.in_range (get_or order n 0) m.0 m.1 in
-                let placed = p.inverse.place m.0 (omega (arith, m-in, p.nodes)) in
-                (omega (arith, above), omega (arith, placed, m.2))
+                let found-in = (place-found order m.0 p.ordered (omega (arith, m-in, p.nodes))).0 in
+                (omega (arith, above), omega (arith, found-in, m.2))
           ]);
       own = (inserted.members n).1 (inl with.own);
       parent = λ u h. (inserted.members u).1 (inl (with.parent u h));
       matrix = λ q above q-in (v, vl, at).
           let m = get_or order q 0 in
-          let m-in = p.ordered.spread.in_range q q-in in
-          let place-in = p.inverse.place m m-in in
-          let back : place m ≡ q = p.ordered.spread.apart (place m) q place-in q-in (p.inverse.node m m-in) in
+          let back : place m ≡ q = place-at order q p.ordered q-in in
           let here : get_or pattern v 0 ≡ m = get_or_default pattern v 0 m vl ∙ at in
           let len = ap length is ∙ length-map pattern place in
           let v-in : v < length found = omega (arith, vl, len) in

@@ -7,7 +7,8 @@ use Rattle.std.proofs.lemmas.List.{get_or_default, get_or_past}
 use Rattle.int_laws.specs.Sums.{sum_below}
 use Rattle.int_laws.proofs.Sums.{int_sums}
 use Rattle.int_laws.proofs.SumLaws.{sum_below-same, sum_below-zero}
-use Rattle.lists.specs.Rising.{IsRising, place_of}
+use Rattle.lists.specs.Rising.{IsRising}
+use Rattle.lists.specs.Order.{place_of}
 use Rattle.lists.proofs.PlaceLemmas.{place_of-at, at_place_of}
 use Rattle.cholesky_laws.specs.Recurrence.{cholesky, left_after, pivot}
 use Rattle.cholesky_laws.specs.Breakdown.{Passes, squares, BreaksAtPivot, HasLargeEntry, HasWideRow}

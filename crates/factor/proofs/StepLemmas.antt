@@ -10,7 +10,8 @@ use Rattle.cholesky_laws.specs.Recurrence.{cholesky}
 use Rattle.cholesky_laws.proofs.RecurrenceLemmas.{cholesky-above}
 use Rattle.factor.specs.Panel.{kept_for}
 use Rattle.factor.specs.State.{ArePanels, AreUsers, IsNodePanel, nodes_at, entries_at, sums_at}
-use Rattle.factor.specs.Columns.{ListsInAll, ArePanelShapes, HasColumns}
+use Rattle.factor.specs.Columns.{ArePanelShapes, HasColumns}
+use Rattle.lists.specs.Lists.{ListsInAll}
 use Rattle.factor.specs.Scalar.{IsFactorOf, IsBreakdown}
 use Rattle.factor.specs.declared.fault.ScalarFault.{ScalarFault}
 use Rattle.factor.specs.declared.fault.ScalarFault.TheVariants.{NoMemory}

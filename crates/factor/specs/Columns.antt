@@ -7,12 +7,6 @@ use Rattle.factor.specs.Panel.{kept_for}
 use Rattle.factor.specs.State.{nodes_at, entries_at}
 use Rattle.factor.specs.declared.panel.Panel.{Panel}
 
--- a number is put into each list that is named, and the lists stay in order
-pub record ListsInAll (old new : List (List ℕ)) (named : List ℕ) (number : ℕ) : Type 0 where
-  pub count : length new ≡ length old
-  pub rising : (q : ℕ) → IsRising (list_of new q)
-  pub members : (q d : ℕ) → Contains (list_of new q) d ↔ (Contains (list_of old q) d ⊎ (Contains named q × (d ≡ number)))
-
 -- the panels' nodes and entries fit
 pub record ArePanelShapes (size : ℕ) (panels : List Panel) : Type 0 where
   pub count : length panels ≡ size

@@ -2,11 +2,6 @@
 use Rattle.std.specs.Prelude.{◌≡◌, ℕ, ◌+◌, ◌*◌, ◌/◌, ◌%◌, ◌<◌, List, length, slice_index, slice_index_or, Contains, ◌⊎◌, ◌↔◌, ℤ, pos}
 use Rattle.lists.specs.Rising.{IsRising}
 
--- the numbers above `least` are put in, and the list stays in order
-pub record InsertsLater (old new numbers : List ℕ) (least : ℕ) : Type 0 where
-  pub rising : IsRising new
-  pub members : (x : ℕ) → Contains new x ↔ (Contains old x ⊎ (Contains numbers x × (least < x)))
-
 -- the entries of a node's columns, six by six for each node
 pub record IsLoaded (a : ℕ → ℕ → ℤ) (nodes : List ℕ) (node : ℕ) (work : List ℤ) : Type 0 where
   pub whole : length work ≡ 36 * length nodes

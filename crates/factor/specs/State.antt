@@ -8,7 +8,7 @@ use Rattle.sym_blocks.specs.Matrix.{Matrix, node_count, HasBlock, IsSymmetricByB
 use Rattle.cholesky_laws.specs.Recurrence.{left_after, scaled}
 use Rattle.cholesky_laws.specs.Elimination.{parent_of}
 use Rattle.cholesky_laws.specs.Breakdown.{Passes, squares}
-use Rattle.factor_data.specs.Order.{IsOrder}
+use Rattle.lists.specs.Order.{IsOrder}
 use Rattle.factor.specs.Panel.{IsPanel, kept_for}
 use Rattle.factor.specs.declared.panel.Panel.{Panel}
 
@@ -20,14 +20,8 @@ matrix_of k order shift = scaled (stiffness k) order shift
 abbrev pub AreParents : List (Option ℕ) → ℕ → Type 0
 AreParents parents size = (p : ℕ) → p < size → IfSome (parent_of parents p) (λ u. (p < u) × (u < size))
 
--- places are those of the nodes in the order
-pub record IsInverse (order places : List ℕ) : Type 0 where
-  pub count : length places ≡ length order
-  pub place : (m : ℕ) → m < length order → slice_index places m < length order
-  pub node : (m : ℕ) → m < length order → slice_index order (slice_index places m) ≡ m
-
 -- what is factorised is within the limits
-pub record IsProblem (k : Matrix) (order places : List ℕ) (parents : List (Option ℕ)) (shift : ℤ) : Type 0 where
+pub record IsProblem (k : Matrix) (order : List ℕ) (parents : List (Option ℕ)) (shift : ℤ) : Type 0 where
   pub few : length order ≤ 8000
   pub ordered : IsOrder order
   pub nodes : node_count k ≡ length order
@@ -36,7 +30,6 @@ pub record IsProblem (k : Matrix) (order places : List ℕ) (parents : List (Opt
   pub shift_high : shift ≤ℤ pos (2 ^ 44)
   pub parents_count : length parents ≡ length order
   pub parents_later : AreParents parents (length order)
-  pub inverse : IsInverse order places
 
 -- the nodes that a panel's columns reach, its entries and its sums of squares
 abbrev pub nodes_at : List Panel → ℕ → List ℕ

@@ -4,6 +4,7 @@ ghost use Rattle.cholesky_laws.specs.Recurrence.{freedom_at};
 ghost use Rattle.factor.specs.State.{IsProblem, matrix_of};
 ghost use Rattle.factor.specs.Front.{IsLoaded};
 
+use lists::Permutation;
 use std::alloc::{AllocError, Global};
 use sym_blocks::SymBlocks;
 
@@ -11,8 +12,7 @@ use sym_blocks::SymBlocks;
 #[derive(Clone, Copy)]
 pub struct Problem<'a> {
     pub matrix: &'a SymBlocks,
-    pub order: &'a [u32],
-    pub places: &'a [u32],
+    pub order: &'a Permutation,
     pub parents: &'a [Option<u32>],
     pub shift: i128,
 }
@@ -27,7 +27,7 @@ pub fn load(
     nodes: &[u32],
     node: u32,
 ) -> Result<Vec<i128>, AllocError>
-    requires problem { IsProblem problem.now.matrix.now problem.now.order.now problem.now.places.now problem.now.parents.now problem.now.shift }
+    requires problem { IsProblem problem.now.matrix.now problem.now.order.now problem.now.parents.now problem.now.shift }
     requires nodes_in { All (λ q. q < length problem.now.order.now) nodes.now }
     requires few { length nodes.now ≤ 8000 }
     requires node_in { node < length problem.now.order.now }
@@ -44,7 +44,7 @@ pub fn load(
 
 // The entry at two positions, scaled and with the shift taken off the diagonal.
 fn scaled_entry(problem: &Problem, i: u32, j: u32) -> i128
-    requires problem { IsProblem problem.now.matrix.now problem.now.order.now problem.now.places.now problem.now.parents.now problem.now.shift }
+    requires problem { IsProblem problem.now.matrix.now problem.now.order.now problem.now.parents.now problem.now.shift }
     requires i_in { i < 6 * length problem.now.order.now }
     requires j_in { j < 6 * length problem.now.order.now }
     ensures { result ≡ matrix_of problem.now.matrix.now problem.now.order.now problem.now.shift i j }
@@ -60,10 +60,10 @@ fn scaled_entry(problem: &Problem, i: u32, j: u32) -> i128
 }
 
 // The freedom at a position.
-fn freedom(order: &[u32], position: u32) -> u32
+fn freedom(order: &Permutation, position: u32) -> u32
     requires position_in { position < 6 * length order.now }
     requires small { All (λ m. m < 8000) order.now }
     ensures { result ≡ freedom_at order.now position }
 {
-    6 * order[(position / 6) as usize] + position % 6
+    6 * order.number_at(position / 6) + position % 6
 }

@@ -4,11 +4,11 @@ ghost use Rattle.factor.specs.Scalar.{IsBreakdownAt, fault_of};
 
 use crate::eliminate::{Breakdown, eliminate};
 use crate::fault::ScalarFault;
-use crate::front::{insert_later, places_of};
+use crate::front::places_of;
 use crate::gather::{add_squares, gather};
 use crate::load::{Problem, load};
 use crate::squares::add_own;
-use lists::insert_rising;
+use lists::{Permutation, insert_later, insert_rising};
 use std::alloc::{AllocError, Global};
 
 /// A node's six columns.
@@ -30,7 +30,7 @@ pub fn eliminate_node(
     users: &[u32],
     node: u32,
 ) -> Result<Panel, ScalarFault>
-    requires problem { IsProblem problem.now.matrix.now problem.now.order.now problem.now.places.now problem.now.parents.now problem.now.shift }
+    requires problem { IsProblem problem.now.matrix.now problem.now.order.now problem.now.parents.now problem.now.shift }
     requires node_in { node < length problem.now.order.now }
     requires panels { ArePanels (matrix_of problem.now.matrix.now problem.now.order.now problem.now.shift) problem.now.parents.now (length problem.now.order.now) node panels.now }
     requires users { AreUsers panels.now node node users.now }
@@ -47,7 +47,7 @@ pub fn eliminate_node(
     let mut sums = child_sums(alloc, problem, &nodes, panels, users, node)?;
     if !add_own(&mut sums, &entries) {
         return Err(ScalarFault::Wide {
-            node: problem.order[node as usize],
+            node: problem.order.number_at(node),
         });
     }
     Ok(Panel {
@@ -66,7 +66,7 @@ fn front(
     users: &[u32],
     node: u32,
 ) -> Result<Vec<u32>, AllocError>
-    requires problem { IsProblem problem.now.matrix.now problem.now.order.now problem.now.places.now problem.now.parents.now problem.now.shift }
+    requires problem { IsProblem problem.now.matrix.now problem.now.order.now problem.now.parents.now problem.now.shift }
     requires node_in { node < length problem.now.order.now }
     requires panels { ArePanels (matrix_of problem.now.matrix.now problem.now.order.now problem.now.shift) problem.now.parents.now (length problem.now.order.now) node panels.now }
     requires users { AreUsers panels.now node node users.now }
@@ -81,15 +81,15 @@ fn front(
 
 // The node itself, its parent and its later neighbours.
 fn near(alloc: Global, problem: &Problem, node: u32) -> Result<Vec<u32>, AllocError>
-    requires problem { IsProblem problem.now.matrix.now problem.now.order.now problem.now.places.now problem.now.parents.now problem.now.shift }
+    requires problem { IsProblem problem.now.matrix.now problem.now.order.now problem.now.parents.now problem.now.shift }
     requires node_in { node < length problem.now.order.now }
     ensures { IfOk result (λ nodes. IsFront problem.now.matrix.now problem.now.order.now problem.now.parents.now [] [] node nodes.items) }
 {
     let mut nodes = with_parent(alloc, problem.parents, node)?;
-    let neighbours = problem.matrix.pattern(problem.order[node as usize]);
+    let neighbours = problem.matrix.pattern(problem.order.number_at(node));
     insert_later(
         &mut nodes,
-        &places_of(alloc, problem.places, neighbours)?,
+        &places_of(alloc, problem.order, neighbours)?,
         node,
     )?;
     Ok(nodes)
@@ -116,7 +116,7 @@ fn left_for(
     users: &[u32],
     node: u32,
 ) -> Result<Vec<i128>, AllocError>
-    requires problem { IsProblem problem.now.matrix.now problem.now.order.now problem.now.places.now problem.now.parents.now problem.now.shift }
+    requires problem { IsProblem problem.now.matrix.now problem.now.order.now problem.now.parents.now problem.now.shift }
     requires node_in { node < length problem.now.order.now }
     requires panels { ArePanels (matrix_of problem.now.matrix.now problem.now.order.now problem.now.shift) problem.now.parents.now (length problem.now.order.now) node panels.now }
     requires users { AreUsers panels.now node node users.now }
@@ -140,7 +140,7 @@ fn child_sums(
     users: &[u32],
     node: u32,
 ) -> Result<Vec<i128>, AllocError>
-    requires problem { IsProblem problem.now.matrix.now problem.now.order.now problem.now.places.now problem.now.parents.now problem.now.shift }
+    requires problem { IsProblem problem.now.matrix.now problem.now.order.now problem.now.parents.now problem.now.shift }
     requires node_in { node < length problem.now.order.now }
     requires panels { ArePanels (matrix_of problem.now.matrix.now problem.now.order.now problem.now.shift) problem.now.parents.now (length problem.now.order.now) node panels.now }
     requires users { AreUsers panels.now node node users.now }
@@ -168,11 +168,11 @@ fn is_child(parents: &[Option<u32>], user: u32, node: u32) -> bool
 }
 
 // The fault of a node at which its columns break down.
-fn fault_at(order: &[u32], node: u32, breakdown: Breakdown) -> ScalarFault
+fn fault_at(order: &Permutation, node: u32, breakdown: Breakdown) -> ScalarFault
     requires { node < length order.now }
     ensures { result ≡ fault_of (slice_index order.now node) breakdown }
 {
-    let node = order[node as usize];
+    let node = order.number_at(node);
     match breakdown {
         Breakdown::Pivot(dof) => ScalarFault::Pivot { node, dof },
         Breakdown::Wide => ScalarFault::Wide { node },

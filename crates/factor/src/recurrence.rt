@@ -3,17 +3,17 @@ ghost use Rattle.std.specs.Int.RustNames.{unsigned_abs};
 ghost use Rattle.lists.specs.Rising.{IsRising};
 ghost use Rattle.lists.specs.Lists.{contents, list_of};
 ghost use Rattle.sym_blocks.specs.Matrix.{node_count, entry};
-ghost use Rattle.factor_data.specs.Order.{IsOrder};
-ghost use Rattle.factor.specs.State.{AreParents, matrix_of};
-ghost use Rattle.factor.specs.Columns.{ListsInAll, ArePanelShapes, HasColumns, AreColumnRows, AreColumnValues};
+ghost use Rattle.lists.specs.Order.{IsOrder};
+ghost use Rattle.factor.specs.State.{AreParents, IsProblem, matrix_of};
+ghost use Rattle.factor.specs.Columns.{ArePanelShapes, HasColumns, AreColumnRows, AreColumnValues};
+ghost use Rattle.lists.specs.Lists.{ListsInAll};
 ghost use Rattle.factor.specs.Scalar.{IsFactorOf, IsBreakdown};
 
 use crate::fault::ScalarFault;
-use crate::front::inverse;
 use crate::load::Problem;
 use crate::panel::{Panel, eliminate_node};
 use factor_data::Factor;
-use lists::list_number;
+use lists::{Permutation, empty_lists, list_in_all};
 use std::alloc::{AllocError, Global};
 use sym_blocks::SymBlocks;
 
@@ -39,50 +39,36 @@ pub fn scalar(
         (IsFactorOf (matrix_of k.now order.now shift) order.now parents.now)
         (IsBreakdown (matrix_of k.now order.now shift) order.now parents.now) }
 {
-    let places = inverse(alloc, order)?;
+    let permutation = Permutation::new(alloc, Vec::from_slice(alloc, order)?)?;
     let problem = Problem {
         matrix: k,
-        order,
-        places: &places,
+        order: &permutation,
         parents,
         shift,
     };
-    let mut users = empty_lists(alloc, order.len())?;
-    let mut panels = Vec::with_capacity(alloc, order.len())?;
-    for node in 0..order.len() {
-        let panel = eliminate_node(alloc, &problem, &panels, &users[node], node as u32)?;
+    eliminate_all(alloc, &problem)
+}
+
+// The columns of all nodes, one node after another, each from the columns that reach it.
+fn eliminate_all(alloc: Global, problem: &Problem) -> Result<Factor, ScalarFault>
+    requires { IsProblem problem.now.matrix.now problem.now.order.now problem.now.parents.now problem.now.shift }
+    ensures { MatchResult result
+        (IsFactorOf (matrix_of problem.now.matrix.now problem.now.order.now problem.now.shift) problem.now.order.now problem.now.parents.now)
+        (IsBreakdown (matrix_of problem.now.matrix.now problem.now.order.now problem.now.shift) problem.now.order.now problem.now.parents.now) }
+{
+    let mut users = empty_lists(alloc, problem.order.len())?;
+    let mut panels = Vec::with_capacity(alloc, problem.order.len())?;
+    for node in 0..problem.order.len() {
+        let panel = eliminate_node(alloc, problem, &panels, &users[node], node as u32)?;
         list_in_all(&mut users, &panel.nodes, node as u32)?;
         panels.push(panel)?;
     }
-    Ok(columns(alloc, order, &panels)?)
-}
-
-fn empty_lists(alloc: Global, count: usize) -> Result<Vec<Vec<u32>>, AllocError>
-    ensures { IfOk result (λ lists. contents lists.items ≡ replicate count []) }
-{
-    let mut lists = Vec::with_capacity(alloc, count)?;
-    for _list in 0..count {
-        lists.push(Vec::new(alloc))?;
-    }
-    Ok(lists)
-}
-
-// Puts a number into the lists that some numbers name.
-fn list_in_all(lists: &mut [Vec<u32>], named: &[u32], number: u32) -> Result<(), AllocError>
-    requires in_range { All (λ q. q < length lists.old) named.now }
-    requires rising { (q : ℕ) → IsRising (list_of (contents lists.old) q) }
-    ensures { OnOk result (ListsInAll (contents lists.old) (contents lists.new) named.now number) }
-{
-    for &list in named {
-        list_number(lists, list, number)?;
-    }
-    Ok(())
+    Ok(columns(alloc, problem.order, &panels)?)
 }
 
 // The factor of all columns.
-fn columns(alloc: Global, order: &[u32], panels: &[Panel]) -> Result<Factor, AllocError>
+fn columns(alloc: Global, order: &Permutation, panels: &[Panel]) -> Result<Factor, AllocError>
     requires few { length order.now ≤ 8000 }
-    requires order { IsOrder order.now }
     requires panels { ArePanelShapes (length order.now) panels.now }
     ensures { IfOk result (λ f. HasColumns order.now panels.now f) }
 {
@@ -93,7 +79,7 @@ fn columns(alloc: Global, order: &[u32], panels: &[Panel]) -> Result<Factor, All
         rows.push(column_rows(alloc, &panel.nodes, column % 6)?)?;
         values.push(column_values(alloc, &panel.entries, column % 6)?)?;
     }
-    Ok(Factor::of_parts(Vec::from_slice(alloc, order)?, rows, values))
+    Ok(Factor::of_parts(Vec::from_slice(alloc, order.numbers())?, rows, values))
 }
 
 // The positions of a column, from its own on.

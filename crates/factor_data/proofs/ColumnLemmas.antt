@@ -5,7 +5,7 @@ use Rattle.std.proofs.lemmas.Bool.Decides.{nat_tests}
 use Rattle.std.proofs.lemmas.List.{get_or_default}
 use Rattle.int_laws.specs.Sums.{sum_below}
 use Rattle.int_laws.proofs.SumLaws.{sum_below-one, sum_below-zero}
-use Rattle.factor_data.specs.Order.{IsSpread}
+use Rattle.lists.specs.Order.{IsSpread}
 use Rattle.factor_data.specs.Columns.{column_part}
 
 pub term-here : (weight : ℤ → ℤ) (rows : List ℕ) (values : List ℤ) (v i : ℕ) → slice_index rows v ≡ i →

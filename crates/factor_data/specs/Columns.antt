@@ -3,7 +3,7 @@ use Rattle.std.specs.Prelude.{Vec, ◌≡◌, ℕ, ◌*◌, ◌<◌, ◌≤◌, 
 use Rattle.std.specs.declared.alloc.Global.{Global}
 use Rattle.int_laws.specs.Sums.{sum_below}
 use Rattle.lists.specs.Rising.{IsRising}
-use Rattle.factor_data.specs.Order.{IsOrder}
+use Rattle.lists.specs.Order.{IsOrder}
 
 -- a factor as contracts see it: the order of elimination, and for each column the positions of its entries and their values
 pub record Columns : Type 0 where

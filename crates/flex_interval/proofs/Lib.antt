@@ -4,3 +4,6 @@ pub mod ProductLemmas
 pub mod QuotientLemmas
 pub mod RootLemmas
 pub mod SumLemmas
+pub mod BestRootLemmas
+pub mod SmallRatios
+pub mod SmallProducts

@@ -1,12 +1,13 @@
 -- Products of intervals.
-use Rattle.std.proofs.Common.{◌≡◌, arith, pos, ◌*ℤ◌, ◌≤ℤ◌, ◌<ℤ◌}
+use Rattle.std.proofs.Common.{◌≡◌, refl, arith, ℤ, pos, ◌*ℤ◌, ◌≤ℤ◌, ◌<ℤ◌, Result, Ok, Err}
 use Rattle.std.proofs.lemmas.Int.{ints}
 use Rattle.std.specs.Int.{int_min, int_max}
 use Rattle.int_laws.proofs.Sums.{int_sums}
 use Rattle.int_laws.proofs.Products.{mul_comm, mul_assoc, le_mul, mul_positive}
 use Rattle.flex_interval.specs.Ends.{Ends}
 use Rattle.flex_interval.specs.Fraction.{Fraction, Within, scaled, times}
-use Rattle.flex_interval.specs.Operations.{ends}
+use Rattle.flex_interval.specs.declared.fault.IvFault.{IvFault}
+use Rattle.flex_interval.specs.Operations.{ends, and_then, least, greatest, multiple_of, products_of, product_of}
 use Rattle.flex_interval.proofs.EndsLemmas.{min_first, min_second, max_first, max_second}
 use Rattle.flex_interval.proofs.FractionLemmas.{below_between, above_between}
 
@@ -34,3 +35,20 @@ products_within b p q x y in_p in_q in_b =
       at_least = omega (arith, int_sums, mul_assoc lo x.den y.den, mul_comm x.num y.num);
       at_most = omega (arith, int_sums, mul_assoc hi x.den y.den, mul_comm x.num y.num);
     })
+
+four : (p q r s : Result ℤ IvFault) →
+    and_then p (λ p. and_then q (λ q. and_then r (λ r. and_then s (λ s. Ok (ends (least p q r s) (greatest p q r s))))))
+    ≡ and_then (and_then p (λ p. and_then q (λ q. Ok (ends (int_min p q) (int_max p q)))))
+    (λ e. and_then (and_then r (λ r. and_then s (λ s. Ok (ends (int_min r s) (int_max r s)))))
+    (λ f. Ok (ends (int_min e.lo f.lo) (int_max e.hi f.hi))))
+four (Ok p) (Ok q) (Ok r) (Ok s) = refl
+four (Ok p) (Ok q) (Ok r) (Err e) = refl
+four (Ok p) (Ok q) (Err e) s = refl
+four (Ok p) (Err e) r s = refl
+four (Err e) q r s = refl
+
+-- the products by each end of b, one after the other
+pub products-by_ends : (a b : Ends) →
+    products_of a b ≡ and_then (multiple_of a b.lo) (λ p. and_then (multiple_of a b.hi) (λ q. Ok (ends (int_min p.lo q.lo) (int_max p.hi q.hi))))
+unfolding products_of multiple_of
+products-by_ends a b = four (product_of a.lo b.lo) (product_of a.hi b.lo) (product_of a.lo b.hi) (product_of a.hi b.hi)

@@ -5,7 +5,7 @@ use Rattle.std.specs.Int.{int_min, int_max}
 use Rattle.int_laws.proofs.Sums.{int_sums}
 use Rattle.int_laws.proofs.Products.{mul_comm, mul_assoc, mul_right_comm, add-mul, neg-mul, le_mul, le_of_mul, mul_positive}
 use Rattle.flex_interval.specs.Ends.{Ends, IsInterval}
-use Rattle.flex_interval.specs.Fraction.{Fraction, Within, plus, negated, absolute, less, greater, lesser}
+use Rattle.flex_interval.specs.Fraction.{Fraction, Within, plus, negated, magnitude, less, greater, lesser}
 use Rattle.flex_interval.specs.Operations.{ends, neg_of, max_of, min_of}
 use Rattle.flex_interval.proofs.QuotientLemmas.{same_ends}
 
@@ -118,8 +118,8 @@ min_within a b x y in_a in_b =
     ] refl
 
 -- ---- sizes
-pub abs_within_zero : (a : Ends) (x : Fraction) → Within a x → Within (ends (pos 0) (int_max (neg_ℤ a.lo) a.hi)) (absolute x)
-unfolding absolute
+pub abs_within_zero : (a : Ends) (x : Fraction) → Within a x → Within (ends (pos 0) (int_max (neg_ℤ a.lo) a.hi)) (magnitude x)
+unfolding magnitude
 abs_within_zero a x within =
     let turned : neg_ℤ x.num ≤ℤ (neg_ℤ a.lo *ℤ x.den) = omega (arith, int_sums, neg-mul a.lo x.den, within.at_least) in
     let first = above_max a.hi (neg_ℤ a.lo) x.den (neg_ℤ x.num) within.defined turned in
@@ -138,15 +138,15 @@ abs_is_interval a in_a = record {
   hi_small = omega (arith, int_sums, clamps, in_a.lo_small, in_a.hi_small);
 }
 
-pub abs_within_positive : (a : Ends) (x : Fraction) → pos 0 <ℤ a.lo → Within a x → Within a (absolute x)
-unfolding absolute
+pub abs_within_positive : (a : Ends) (x : Fraction) → pos 0 <ℤ a.lo → Within a x → Within a (magnitude x)
+unfolding magnitude
 abs_within_positive a x h within =
     let grown = mul_positive a.lo x.den h within.defined in
     let same : pos (unsigned_abs x.num) ≡ x.num = omega (arith, int_sums, within.at_least) in
     record { defined = within.defined; at_least = rw same within.at_least; at_most = rw same within.at_most }
 
-pub abs_within_negative : (a e : Ends) (x : Fraction) → a.hi <ℤ pos 0 → Within a x → Within e (negated x) → Within e (absolute x)
-unfolding absolute negated
+pub abs_within_negative : (a e : Ends) (x : Fraction) → a.hi <ℤ pos 0 → Within a x → Within e (negated x) → Within e (magnitude x)
+unfolding magnitude negated
 abs_within_negative a e x h within turned =
     let grown = mul_positive (neg_ℤ a.hi) x.den (omega (arith, int_sums)) within.defined in
     let same : pos (unsigned_abs x.num) ≡ neg_ℤ x.num = omega (arith, int_sums, within.at_most, neg-mul a.hi x.den) in

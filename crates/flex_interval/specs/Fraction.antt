@@ -28,8 +28,8 @@ unfoldable pub minus : Fraction → Fraction → Fraction
 minus x y = plus x (negated y)
 
 -- the size of x
-unfoldable pub absolute : Fraction → Fraction
-absolute x = record { num = pos (unsigned_abs x.num); den = x.den }
+unfoldable pub magnitude : Fraction → Fraction
+magnitude x = record { num = pos (unsigned_abs x.num); den = x.den }
 
 -- x < y, for positive denominators
 abbrev pub less : Fraction → Fraction → Bool

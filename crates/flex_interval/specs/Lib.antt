@@ -1,3 +1,4 @@
+pub mod BestRoot
 pub mod Ends
 pub mod Fraction
 pub mod Operations

@@ -2,7 +2,7 @@
 use Rattle.std.specs.Prelude.{ℕ, suc, ◌^◌, Bool, ◌&&◌, ℤ, pos, negsuc, ◌+ℤ◌, ◌-ℤ◌, ◌*ℤ◌, neg_ℤ, unsigned_abs, int_lt, int_le, nat_lt, Result, Ok, Err, if◌then◌else◌}
 use Rattle.std.specs.Int.{int_min, int_max}
 use Rattle.flex_num.specs.Division.{floor_of, ceil_of}
-use Rattle.flex_num.specs.Root.{root_of, root_up_of}
+use Rattle.flex_num.specs.Root.{root_of, root_up_of, cube_root_of, cube_root_up_of}
 use Rattle.flex_interval.specs.Ends.{Ends}
 use Rattle.flex_interval.specs.declared.fault.IvFault.{IvFault}
 use Rattle.flex_interval.specs.declared.fault.IvFault.TheVariants as fault
@@ -55,6 +55,14 @@ sub_of a b = and_then (small_of (a.lo -ℤ b.hi)) (λ lo. and_then (small_of (a.
 abbrev pub holds_zero : Ends → Bool
 holds_zero b = int_le b.lo (pos 0) && int_le (pos 0) b.hi
 
+-- half the sum of the ends, rounded down
+abbrev pub middle_of : Ends → ℤ
+middle_of e = floor_of (e.lo +ℤ e.hi) (pos 2)
+
+-- how far the upper end is from the middle
+abbrev pub radius_of : Ends → ℤ
+radius_of e = e.hi -ℤ middle_of e
+
 -- the sizes of the numbers of a
 unfoldable pub abs_of : Ends → Ends
 abs_of a = if holds_zero a then ends (pos 0) (int_max (neg_ℤ a.lo) a.hi) else (if int_lt (pos 0) a.lo then a else neg_of a)
@@ -69,9 +77,12 @@ min_of a b = ends (int_min a.lo b.lo) (int_min a.hi b.hi)
 unfoldable pub multiple_of : Ends → ℤ → Result Ends IvFault
 multiple_of a n = and_then (product_of a.lo n) (λ x. and_then (product_of a.hi n) (λ y. Ok (ends (int_min x y) (int_max x y))))
 
--- the least and the greatest of the products of an end by an end: b.lo a and b.hi a together
+-- the least and the greatest of the products of an end by an end
 unfoldable pub products_of : Ends → Ends → Result Ends IvFault
-products_of a b = and_then (multiple_of a b.lo) (λ p. and_then (multiple_of a b.hi) (λ q. Ok (ends (int_min p.lo q.lo) (int_max p.hi q.hi))))
+products_of a b =
+    and_then (product_of a.lo b.lo) (λ p. and_then (product_of a.hi b.lo) (λ q.
+    and_then (product_of a.lo b.hi) (λ r. and_then (product_of a.hi b.hi) (λ s.
+    Ok (ends (least p q r s) (greatest p q r s))))))
 
 -- a b / 2^s
 unfoldable pub mul_of : Ends → Ends → ℕ → Result Ends IvFault
@@ -107,3 +118,7 @@ div_of a b s = if holds_zero b then Err fault.Zero else and_then (shifted_of a s
 -- the square root of 2^s a, for an a that is nowhere negative
 unfoldable pub sqrt_of : Ends → ℕ → Result Ends IvFault
 sqrt_of a s = and_then (shifted_of a s) (λ e. Ok (ends (root_of e.lo) (root_up_of e.hi)))
+
+-- the cube root of 2^s a, for an a that is nowhere negative
+unfoldable pub cbrt_of : Ends → ℕ → Result Ends IvFault
+cbrt_of a s = and_then (shifted_of a s) (λ e. Ok (ends (cube_root_of e.lo) (cube_root_up_of e.hi)))

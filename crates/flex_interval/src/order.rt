@@ -1,5 +1,5 @@
 ghost use Rattle.std.specs.Prelude.{◌≡◌};
-ghost use Rattle.flex_interval.specs.Fraction.{Fraction, Within, absolute, greater, lesser};
+ghost use Rattle.flex_interval.specs.Fraction.{Fraction, Within, magnitude, greater, lesser};
 ghost use Rattle.flex_interval.specs.Operations.{holds_zero, abs_of, max_of, min_of};
 
 use crate::interval::Iv;
@@ -9,7 +9,7 @@ use crate::sum::neg;
 #[tactic(auto, unfolding(crate::specs::Operations::abs_of))]
 pub fn abs(a: Iv) -> Iv
     ensures value { result ≡ abs_of a }
-    ensures within { (x : Fraction) → Within a x → Within result (absolute x) }
+    ensures within { (x : Fraction) → Within a x → Within result (magnitude x) }
 {
     if holds_zero(a) {
         Iv {

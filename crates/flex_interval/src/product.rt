@@ -22,7 +22,6 @@ pub fn mul(a: Iv, b: Iv, s: u32) -> Result<Iv, IvFault>
 }
 
 /// The least and the greatest of the four products of an end by an end.
-#[tactic(auto, unfolding(crate::specs::Operations::products_of))]
 fn products(a: Iv, b: Iv) -> Result<Iv, IvFault>
     ensures value { result ≡ products_of a b }
     ensures within { IfOk result (λ e. (x y : Fraction) → Within a x → Within b y → Within e (times x y 0)) }

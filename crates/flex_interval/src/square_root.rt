@@ -1,7 +1,7 @@
 ghost use Rattle.std.specs.Prelude.{◌≡◌, ◌≤◌, pos, ◌≤ℤ◌, IfOk};
-ghost use Rattle.flex_interval.specs.Fraction.{Fraction, Within, times};
+ghost use Rattle.flex_interval.specs.Fraction.{Fraction, Within};
 ghost use Rattle.flex_interval.specs.Operations.{sqrt_of};
-ghost use Rattle.flex_interval.specs.Roots.{EnclosesRoot, IsNonnegative};
+ghost use Rattle.flex_interval.specs.Roots.{EnclosesRoot, IsNonnegative, raised};
 
 use crate::fault::IvFault;
 use crate::interval::Iv;
@@ -14,8 +14,8 @@ pub fn root(a: Iv, s: u32) -> Result<Iv, IvFault>
     requires nonnegative { pos 0 ≤ℤ a.lo }
     requires shift { s ≤ 125 }
     ensures value { result ≡ sqrt_of a s }
-    ensures encloses { IfOk result (EnclosesRoot a s) }
-    ensures within { IfOk result (λ b. (y : Fraction) → IsNonnegative y → Within a (times y y s) → Within b y) }
+    ensures encloses { IfOk result (EnclosesRoot 2 a s) }
+    ensures within { IfOk result (λ b. (y : Fraction) → IsNonnegative y → Within a (raised y 2 s) → Within b y) }
 {
     let square = shifted(a, s)?;
     Ok(Iv {

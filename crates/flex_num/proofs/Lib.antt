@@ -1,2 +1,3 @@
 pub mod DivisionLemmas
 pub mod RootLemmas
+pub mod CubeRootLemmas

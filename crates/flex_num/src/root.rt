@@ -4,7 +4,7 @@ ghost use Rattle.flex_num.specs.Root.{IsRoot, IsRootUp, root_of, root_up_of};
 /// The square root of `n` rounded down, for an `n` that isn't negative.
 pub fn isqrt(n: i128) -> i128
     requires { pos 0 ≤ℤ n }
-    ensures meaning { IsRoot n result }
+    ensures meaning { IsRoot 2 n result }
     ensures value { result ≡ root_of n }
 {
     n.isqrt()
@@ -13,7 +13,7 @@ pub fn isqrt(n: i128) -> i128
 /// The square root of `n` rounded up, for an `n` that isn't negative.
 pub fn isqrt_up(n: i128) -> i128
     requires { pos 0 ≤ℤ n }
-    ensures meaning { IsRootUp n result }
+    ensures meaning { IsRootUp 2 n result }
     ensures value { result ≡ root_up_of n }
 {
     let root = n.isqrt();

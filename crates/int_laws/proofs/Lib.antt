@@ -1,3 +1,5 @@
 pub mod Sums
 pub mod Products
 pub mod SumLaws
+pub mod Powers
+pub mod FormLaws

@@ -91,6 +91,11 @@ le_mul_negative c {a} {b} negative h =
     let turned = le_mul (neg_ℤ c) (omega (arith, int_sums)) h in
     omega (arith, int_sums, mul-neg a c, mul-neg b c)
 
+-- a product of two bounded numbers
+pub product_most : (x n a b : ℤ) → pos 0 ≤ℤ a → pos 0 ≤ℤ n → x ≤ℤ a → n ≤ℤ b → (x *ℤ n) ≤ℤ (a *ℤ b)
+product_most x n a b a_positive positive first second =
+    omega (arith, int_sums, le_mul n positive first, le_mul a a_positive second, mul_comm n a, mul_comm b a)
+
 pub lt_mul : (c : ℤ) {a b : ℤ} → pos 0 <ℤ c → a <ℤ b → (a *ℤ c) <ℤ (b *ℤ c)
 lt_mul c {a} {b} positive h =
     let apart : pos 0 <ℤ (b -ℤ a) = omega (arith, int_sums) in

@@ -1,1 +1,3 @@
 pub mod Sums
+pub mod Powers
+pub mod Matrices

@@ -1,3 +1,8 @@
 pub mod RisingLemmas
+pub mod UniqueLemmas
 pub mod PlaceLemmas
 pub mod ListsLemmas
+pub mod LaterLemmas
+pub mod LinkLemmas
+pub mod NamedLemmas
+pub mod SearchLemmas

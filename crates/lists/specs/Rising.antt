@@ -1,11 +1,11 @@
 -- Rising lists of numbers: sets kept in order.
-use Rattle.std.specs.Prelude.{ℕ, suc, ◌<◌, ◌==◌, List, [], ◌∷◌, AllPairs, if◌then◌else◌}
+use Rattle.std.specs.Prelude.{ℕ, ◌<◌, List, AllPairs, Contains, ◌⊎◌, ◌↔◌}
 
 -- each number is less than those after it
 abbrev pub IsRising : List ℕ → Type 0
 IsRising xs = AllPairs (λ x y. x < y) xs
 
--- the place of a number in a list; the list's length where it is not there
-abbrev pub place_of : ℕ → List ℕ → ℕ
-place_of k [] = 0
-place_of k (x ∷ xs) = if x == k then 0 else suc (place_of k xs)
+-- the numbers above `least` are put in, and the list stays in order
+pub record InsertsLater (old new numbers : List ℕ) (least : ℕ) : Type 0 where
+  pub rising : IsRising new
+  pub members : (x : ℕ) → Contains new x ↔ (Contains old x ⊎ (Contains numbers x × (least < x)))

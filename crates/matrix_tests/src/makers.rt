@@ -2,7 +2,7 @@
 //! tested here, entry by entry. A structure of one node too.
 ghost use Rattle.std.specs.Prelude.{◌≡◌, [], ◌∷◌, ℕ, ◌+◌, ◌-◌, ◌*◌, ◌/◌, ◌^◌, ◌<◌, ◌≤◌, ◌+ℤ◌, unsigned_abs, length, slice_index, IfOk, IsTrue};
 ghost use Rattle.sym_blocks.specs.Matrix.{HasBlock, entry, node_count};
-ghost use Rattle.factor_data.specs.Order.{IsOrder};
+ghost use Rattle.lists.specs.Order.{IsOrder};
 ghost use Rattle.matrix_tests.specs.Entries.{AreEntries, IsEntry};
 
 use factor_data::{Factor, NoMemory};

@@ -5,6 +5,7 @@
 -- 2^-20 N/m, shape numbers in 2^-56, displacements and initial deformations in 2^-56 m or rad, loads in 2^-40 N or N m.
 use Rattle.std.specs.Prelude.{ℕ, ◌^◌, ◌<◌, ◌≡◌, List, length, slice_index_or, ℤ, pos, ◌-ℤ◌, ◌*ℤ◌, ◌<ℤ◌, ◌≤ℤ◌}
 use Rattle.int_laws.specs.Sums.{sum_below}
+use Rattle.int_laws.specs.Matrices.{Vector}
 use Rattle.flex_interval.specs.Ends.{Ends}
 use Rattle.flex_interval.specs.Fraction.{Fraction, Within}
 use Rattle.member_set.specs.declared.members.Member.{Member}
@@ -16,10 +17,6 @@ use Rattle.member_set.specs.Members.{nothing, shape_at, start_of, member_of, law
 -- n / q
 abbrev pub fraction : ℤ → ℤ → Fraction
 fraction n q = record { num = n; den = q }
-
--- one whole number a row
-abbrev pub Vector : Type 0
-Vector = ℕ → ℤ
 
 -- a member's law in a realisation: linear, with an initial deformation
 pub data ExactLaw : Type 0 where

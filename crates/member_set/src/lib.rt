@@ -3,7 +3,6 @@
 
 mod forces;
 mod laws;
-mod lists;
 mod members;
 mod residuals;
 

@@ -1,4 +1,4 @@
-use crate::lists::Sequence;
+use lists::Sequence;
 use flex_interval::Iv;
 
 /// A member of a structure: an axial, bending or torsional mode of an element, or a restraint. Its force acts along its

@@ -4,7 +4,8 @@ ghost use Rattle.flex_interval.specs.Fraction.{Within};
 ghost use Rattle.flex_interval.specs.Operations.{and_then, sub_of};
 ghost use Rattle.member_set.specs.declared.members.Law.{Law};
 ghost use Rattle.member_set.specs.Members.{IsBuilt, FitsBuilt, IsModerate, shape_at, row_count, members_at, force_of};
-ghost use Rattle.member_set.specs.Realisation.{Vector, ExactMember, IsMemberWithin, Realisation, IsRealisation, HoldForces, displaced, exact_reach, exact_force, force_in, force_fraction, pull_fraction, exact_residual, fraction};
+ghost use Rattle.member_set.specs.Realisation.{ExactMember, IsMemberWithin, Realisation, IsRealisation, HoldForces, displaced, exact_reach, exact_force, force_in, force_fraction, pull_fraction, exact_residual, fraction};
+ghost use Rattle.int_laws.specs.Matrices.{Vector};
 ghost use Rattle.member_set.specs.Interval.{limited_force, AreForces, member_force_of, pull_of, residual_with, residual_of};
 
 use crate::forces::{law_force, reach};

@@ -1,7 +1,7 @@
 //! A cantilever of 1 m: at rest, with a load at its tip, with a load that is too large, and on an anchor that is too stiff.
 ghost use Rattle.std.specs.Prelude.{◌≡◌, ◌<◌, length};
 ghost use Rattle.factor.specs.State.{AreParents};
-ghost use Rattle.factor_data.specs.Order.{IsOrder};
+ghost use Rattle.lists.specs.Order.{IsOrder};
 
 use crate::makers::{check_all_forces, check_anchors, model};
 use case_run::answers;

@@ -4,7 +4,7 @@ ghost use Rattle.report.specs.Fits.{AreModest, FitsModel, IsCauseIn, IsGuess, Is
 
 use crate::makers::model;
 use model_types::{
-    Bounds, CaseAnswer, Cause, ElementId, Model, NodeId, RestraintId, RestraintKind, Values,
+    Bounds, CaseAnswer, Cause, ElementId, Model, NodeId, RestraintId, RestraintKind, Sequence,
 };
 use report::bytes;
 use std::alloc::Global;
@@ -95,9 +95,9 @@ fn certified(
     assert!(rt; are_modest(u));
     assert!(rt; are_modest(loads));
     CaseAnswer::Certified {
-        u: Values::new(Vec::from_slice(alloc, u).expect(rt, "memory")),
-        loads: Values::new(Vec::from_slice(alloc, loads).expect(rt, "memory")),
-        states: Values::new(Vec::new(alloc)),
+        u: Sequence::new(Vec::from_slice(alloc, u).expect(rt, "memory")),
+        loads: Sequence::new(Vec::from_slice(alloc, loads).expect(rt, "memory")),
+        states: Sequence::new(Vec::new(alloc)),
     }
 }
 
@@ -112,7 +112,7 @@ fn uncertified(
 {
     assert!(rt; is_cause_in(m, &cause));
     assert!(rt; guess.is_empty() || is_candidate(m, guess));
-    let guess = Values::new(Vec::from_slice(alloc, guess).expect(rt, "memory"));
+    let guess = Sequence::new(Vec::from_slice(alloc, guess).expect(rt, "memory"));
     CaseAnswer::Uncertified { cause, guess }
 }
 

@@ -1,6 +1,6 @@
 -- The lists that the fields of a draft's lists and of a model are seen as.
 use Rattle.model_types.specs.Lists.{Lists}
-use Rattle.model_types.specs.declared.lists.RecordLists.TheInside as lists
+use Rattle.model_types.specs.declared.record_lists.RecordLists.TheInside as lists
 use Rattle.model_types.specs.declared.models.Model.TheInside as model
 
 abbrev pub record_lists : lists.Inside → Lists

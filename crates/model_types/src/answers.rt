@@ -1,8 +1,6 @@
 //! What an analysis answers for a model: bounds, causes and the answers of cases and checks.
-ghost use Rattle.std.specs.Prelude.{◌≡◌, ◌==◌, length};
-
 use crate::ids::{CaseId, ElementId, NodeId, RestraintId};
-use std::marker::Model;
+use lists::Sequence;
 
 /// A number lies between `lo` and `hi`, in the scale of its kind.
 #[derive(Clone, Copy)]
@@ -36,74 +34,23 @@ pub enum Cause {
     State { restraint: RestraintId, minus: bool },
 }
 
-/// Values of an answer, in the order that the answer says.
-#[derive(Drop)]
-pub struct Values<T> {
-    items: Vec<T>,
-}
-
-impl<T> Model for Values<T> {
-    ghost use Rattle.std.specs.Prelude.{List};
-
-    ghost Value = { List T };
-
-    ghost view = { λ v. v.items.items };
-}
-
-impl<T> Values<T> {
-    /// The values of a `Vec`, in its order.
-    pub fn new(items: Vec<T>) -> Values<T>
-        ensures { result ≡ items.items }
-    {
-        Values { items }
-    }
-
-    /// The values as a slice.
-    pub fn as_slice(&self) -> &[T]
-        ensures { result.now ≡ self.now }
-    {
-        self.items.as_slice()
-    }
-
-    /// How many values.
-    pub fn len(&self) -> usize
-        ensures { result ≡ length self.now }
-    {
-        self.items.len()
-    }
-
-    /// Whether there is no value.
-    pub fn is_empty(&self) -> bool
-        ensures { result ≡ (length self.now == 0) }
-    {
-        self.items.is_empty()
-    }
-
-    /// The `Vec` of the values.
-    pub fn into_vec(self) -> Vec<T>
-        ensures { result.items ≡ self }
-    {
-        self.items
-    }
-}
-
 /// The answer of a load case.
 #[derive(Drop)]
 pub enum CaseAnswer {
     /// Every equilibrium lies within these bounds.
     Certified {
         /// Displacements and rotations in 2^-56 m and rad, one for each row: six for each node, in the model's order.
-        u: Values<Bounds>,
+        u: Sequence<Bounds>,
         /// Loads in 2^-40 N and N m, one for each restraint member, in the model's order.
-        loads: Values<Bounds>,
+        loads: Sequence<Bounds>,
         /// Whether each one-way member is closed.
-        states: Values<bool>,
+        states: Sequence<bool>,
     },
     /// There is no certificate.
     Uncertified {
         cause: Cause,
         /// The candidate, one number for each row, where the cause is `State`; empty otherwise.
-        guess: Values<i128>,
+        guess: Sequence<i128>,
     },
 }
 
@@ -119,7 +66,7 @@ pub enum StationAnswer {
 #[derive(Drop)]
 pub enum CheckAnswer {
     /// For each element in order the end `from`, then `to`.
-    Stations(Values<StationAnswer>),
+    Stations(Sequence<StationAnswer>),
     /// This case of the check is not certified.
     Unchecked(CaseId),
 }

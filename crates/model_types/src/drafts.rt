@@ -9,7 +9,7 @@ use crate::NoMemory;
 use crate::answers::Bounds;
 use crate::faults::{AddFault, WholeFault};
 use crate::ids::Space;
-use crate::lists::RecordLists;
+use crate::record_lists::RecordLists;
 use crate::models::Model;
 use crate::records::Record;
 use std::alloc::Global;

@@ -8,12 +8,12 @@ pub mod answers;
 pub mod drafts;
 pub mod faults;
 pub mod ids;
-mod lists;
+mod record_lists;
 pub mod models;
 pub mod records;
 mod tables;
 
-pub use answers::{Bounds, CaseAnswer, Cause, CheckAnswer, StationAnswer, Values};
+pub use answers::{Bounds, CaseAnswer, Cause, CheckAnswer, StationAnswer};
 pub use drafts::Draft;
 pub use faults::{AddFault, WholeFault};
 pub use ids::{CaseId, CheckId, ElementId, MaterialId, NodeId, RestraintId, SectionId, Space};
@@ -22,6 +22,7 @@ pub use records::{
     Case, Check, CheckKind, Element, Force, Material, Move, Node, Pressure, Record, Restraint,
     RestraintKind, Section, Shape, Tee, TeeKind, Temp,
 };
+pub use lists::Sequence;
 use std::alloc::AllocError;
 pub use text_words::Name;
 

@@ -4,9 +4,12 @@ use Rattle.std.proofs.lemmas.Int.{ints}
 use Rattle.int_laws.proofs.Sums.{int_sums}
 use Rattle.int_laws.proofs.Products.{mul_comm, mul_assoc, one-mul, zero-mul, mul-neg, mul-sub, mul_positive, lt_of_mul}
 use Rattle.flex_interval.specs.Fraction.{Fraction, whole, negated, scaled, times, over, minus}
-use Rattle.pipe_element.specs.Axes.{Axis, x_axis, y_axis, z_axis, Motion, translation, rotation, End, from_end, to_end}
-use Rattle.pipe_element.specs.Span.{Span, square_of, IsLengthOf}
-use Rattle.pipe_element.specs.ExactStraight.{Tube, Mode, axial, torsion, bending, shear, tangent, crossed, half_length, lever_arm, signed, shape_of, axial_stiffness, bending_stiffness, torsion_stiffness, shear_stiffness, stiffness_of}
+use Rattle.member_pairs.specs.Axes.{Axis, x_axis, y_axis, z_axis, Motion, translation, rotation, End, from_end, to_end}
+use Rattle.member_pairs.specs.Span.{Span, square_of, IsLengthOf}
+use Rattle.member_pairs.specs.Lengths.{tangent, half_length}
+use Rattle.member_pairs.specs.Vectors.{crossed}
+use Rattle.member_pairs.specs.declared.tube.Tube.{Tube}
+use Rattle.pipe_element.specs.ExactStraight.{Mode, axial, torsion, bending, shear, lever_arm, signed, shape_of, axial_stiffness, bending_stiffness, torsion_stiffness, shear_stiffness, stiffness_of}
 use Rattle.pipe_element.specs.Beam.{Beam, beam_of, per_length, ei_per_length, along, across, turning, force_by_translation, force_by_rotation, moment_at_end, moment_carried_over, between, beam_entry, members_entry, AddUpToBeam, Same}
 use Rattle.pipe_element.proofs.Readings.{Reads, reads_whole, reads_at, reads_same, reads_negated, reads_scaled, reads_times, reads_plus, reads_minus, reads_over}
 use Rattle.pipe_element.proofs.CrossProducts.{cross, lever, mul-zero}

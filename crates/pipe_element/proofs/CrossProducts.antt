@@ -3,8 +3,8 @@ use Rattle.std.proofs.Common.{◌≡◌, ap, sym, ◌∙◌, arith, ℤ, pos, �
 use Rattle.std.proofs.lemmas.Int.{ints}
 use Rattle.int_laws.proofs.Sums.{int_sums}
 use Rattle.int_laws.proofs.Products.{mul_comm, mul_assoc, mul_mul_mul_comm, add-mul, sub-mul, mul-sub, neg-mul, mul-neg, zero-mul}
-use Rattle.pipe_element.specs.Axes.{Axis, x_axis, y_axis, z_axis, where_equal}
-use Rattle.pipe_element.specs.Span.{Span, square_of}
+use Rattle.member_pairs.specs.Axes.{Axis, x_axis, y_axis, z_axis, where_equal}
+use Rattle.member_pairs.specs.Span.{Span, square_of}
 
 -- the part along `i` of the cross product of d with the axis `e`
 abbrev pub cross : Span → Axis → Axis → ℤ

@@ -4,6 +4,5 @@ pub mod CrossProducts
 pub mod MemberSums
 pub mod Balances
 pub mod BeamLaw
-pub mod WayLemmas
 pub mod Enclosures
-pub mod TubeLemmas
+pub mod Limits

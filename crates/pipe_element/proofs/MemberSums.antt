@@ -2,8 +2,8 @@
 use Rattle.std.proofs.Common.{◌≡◌, ◌*◌, ◌^◌, [], ◌∷◌, refl, ap, sym, ◌∙◌, arith, ℤ, pos, negsuc, ◌+ℤ◌, ◌*ℤ◌}
 use Rattle.int_laws.proofs.Sums.{int_sums}
 use Rattle.int_laws.proofs.Products.{mul_comm, mul_assoc, mul-add, add-mul}
-use Rattle.pipe_element.specs.Axes.{Axis, x_axis, y_axis, z_axis, Motion, translation, rotation, End, from_end, to_end}
-use Rattle.pipe_element.specs.Span.{Span, square_of}
+use Rattle.member_pairs.specs.Axes.{Axis, x_axis, y_axis, z_axis, Motion, translation, rotation, End, from_end, to_end}
+use Rattle.member_pairs.specs.Span.{Span, square_of}
 use Rattle.pipe_element.specs.ExactStraight.{Mode, axial, torsion, bending, shear}
 use Rattle.pipe_element.proofs.CrossProducts.{cross, lever, sum_of, cross_cross, cross_lever, lever_lever, mul-zero}
 use Rattle.pipe_element.proofs.Products.{factor, both, same_factors, of_list}

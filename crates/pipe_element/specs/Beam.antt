@@ -8,9 +8,12 @@
 --   moment by rotation       GJ/L P + 4EI/L (I - P) at one end, 2EI/L (I - P) - GJ/L P between the ends
 use Rattle.std.specs.Prelude.{ℕ, ◌^◌, ◌*◌, ◌≡◌, ℤ, pos, ◌+ℤ◌, ◌*ℤ◌}
 use Rattle.flex_interval.specs.Fraction.{Fraction, whole, negated, scaled, times, over, plus, minus}
-use Rattle.pipe_element.specs.Axes.{Axis, x_axis, y_axis, z_axis, Motion, translation, rotation, End, from_end, to_end, where_equal}
-use Rattle.pipe_element.specs.Span.{Span}
-use Rattle.pipe_element.specs.ExactStraight.{Tube, Mode, axial, torsion, bending, shear, stiffness_of, shape_of, tangent, crossed, signed}
+use Rattle.member_pairs.specs.Axes.{Axis, x_axis, y_axis, z_axis, Motion, translation, rotation, End, from_end, to_end, where_equal}
+use Rattle.member_pairs.specs.Span.{Span}
+use Rattle.member_pairs.specs.Lengths.{tangent}
+use Rattle.member_pairs.specs.Vectors.{crossed}
+use Rattle.member_pairs.specs.declared.tube.Tube.{Tube}
+use Rattle.pipe_element.specs.ExactStraight.{Mode, axial, torsion, bending, shear, stiffness_of, shape_of, signed}
 
 -- ---- the beam
 

@@ -1,16 +1,12 @@
 -- The eight members of a straight, read exactly: for any value of pi and any length, with no rounding.
-use Rattle.std.specs.Prelude.{◌^◌, ◌*◌, ℤ, pos, ◌+ℤ◌, ◌*ℤ◌}
+use Rattle.std.specs.Prelude.{◌^◌, ◌*◌, pos}
 use Rattle.flex_interval.specs.Fraction.{Fraction, whole, negated, scaled, over, minus}
-use Rattle.pipe_element.specs.Axes.{Axis, x_axis, y_axis, z_axis, Motion, translation, rotation, End, from_end, to_end, where_equal}
-use Rattle.pipe_element.specs.Span.{Span, square_of}
-
--- a round tube: Young's modulus E in MPa, Poisson's ratio in thousandths, and of the outside and the inside diameter D and d,
--- in micrometres, D^2 - d^2 and D^2 + d^2
-pub record Tube : Type 0 where
-  pub modulus : ℤ
-  pub poisson_ratio : ℤ
-  pub square_difference : ℤ
-  pub square_sum : ℤ
+use Rattle.member_pairs.specs.Axes.{Axis, Motion, translation, rotation, End, from_end, to_end, where_equal}
+use Rattle.member_pairs.specs.Lengths.{tangent, half_length}
+use Rattle.member_pairs.specs.Span.{Span, square_of}
+use Rattle.member_pairs.specs.Tubes.{load_of, divisor_of}
+use Rattle.member_pairs.specs.Vectors.{crossed}
+use Rattle.member_pairs.specs.declared.tube.Tube.{Tube}
 
 -- the eight ways in which a straight gives: along the axis, about it, in bending about each axis of space, and in shear
 pub data Mode : Type 0 where
@@ -23,7 +19,7 @@ pub data Mode : Type 0 where
 
 -- EA/L
 unfoldable pub axial_stiffness : Tube → Fraction → Fraction → Fraction
-axial_stiffness tube pi length = over (scaled pi (tube.modulus *ℤ tube.square_difference) (pos 1)) (scaled length (pos 4) (pos 1)) 0
+axial_stiffness tube pi length = over (scaled pi (load_of tube) (pos 1)) (scaled length (pos 4) (pos 1)) 0
 
 -- EI/L
 unfoldable pub bending_stiffness : Tube → Fraction → Fraction → Fraction
@@ -31,7 +27,7 @@ bending_stiffness tube pi length = scaled (axial_stiffness tube pi length) tube.
 
 -- GJ/L
 unfoldable pub torsion_stiffness : Tube → Fraction → Fraction → Fraction
-torsion_stiffness tube pi length = scaled (bending_stiffness tube pi length) (pos 1000) (pos 1000 +ℤ tube.poisson_ratio)
+torsion_stiffness tube pi length = scaled (bending_stiffness tube pi length) (pos 1000) (divisor_of tube)
 
 -- 12EI/L^3
 unfoldable pub shear_stiffness : Tube → Span → Fraction → Fraction → Fraction
@@ -44,26 +40,6 @@ stiffness_of tube d pi length (bending _) = bending_stiffness tube pi length
 stiffness_of tube d pi length (shear _) = shear_stiffness tube d pi length
 
 -- ---- shape vectors, in units of 2^-56
-
--- the unit vector from FROM to TO
-unfoldable pub tangent : Span → Fraction → Axis → Fraction
-tangent d length i = over (whole (d i *ℤ pos (2 ^ 36))) length 56
-
--- the part along `i` of the cross product of t with the axis `e`
-abbrev pub crossed : (Axis → Fraction) → Axis → Axis → Fraction
-crossed t x_axis x_axis = whole (pos 0)
-crossed t x_axis y_axis = t z_axis
-crossed t x_axis z_axis = negated (t y_axis)
-crossed t y_axis x_axis = negated (t z_axis)
-crossed t y_axis y_axis = whole (pos 0)
-crossed t y_axis z_axis = t x_axis
-crossed t z_axis x_axis = t y_axis
-crossed t z_axis y_axis = negated (t x_axis)
-crossed t z_axis z_axis = whole (pos 0)
-
--- half the length, in units of 2^-56 m
-unfoldable pub half_length : Fraction → Fraction
-half_length length = scaled length (pos (2 ^ 19)) (pos (10 ^ 6))
 
 -- the part along `k` of the lever arm of shear `e`, taken at the middle of the length: half of `L e - d t_e`
 unfoldable pub lever_arm : Span → Fraction → Axis → Axis → Fraction

@@ -1,9 +1,5 @@
-pub mod Axes
-pub mod Span
 pub mod ExactStraight
 pub mod Beam
-pub mod Vectors
 pub mod Rounded
-pub mod Stiffnesses
 pub mod Shapes
 pub mod Straight

@@ -1,11 +1,21 @@
--- What the shape vectors are made of, and what it encloses.
+-- What a straight's stiffnesses and shape vectors are made of, and what it encloses.
 use Rattle.std.specs.Prelude.{◌*◌, ◌^◌, pos}
-use Rattle.flex_interval.specs.Fraction.{Fraction, scaled}
-use Rattle.pipe_element.specs.Axes.{Axis, x_axis, y_axis, z_axis}
-use Rattle.pipe_element.specs.Span.{Span}
-use Rattle.pipe_element.specs.ExactStraight.{tangent, lever_arm}
-use Rattle.pipe_element.specs.Vectors.{EnclosesVector}
+use Rattle.flex_interval.specs.Fraction.{Fraction, Within, scaled}
+use Rattle.member_pairs.specs.Axes.{Axis, x_axis, y_axis, z_axis}
+use Rattle.member_pairs.specs.Lengths.{tangent}
+use Rattle.member_pairs.specs.Span.{Span}
+use Rattle.member_pairs.specs.Vectors.{EnclosesVector}
+use Rattle.member_pairs.specs.declared.tube.Tube.{Tube}
+use Rattle.pipe_element.specs.ExactStraight.{axial_stiffness, torsion_stiffness, bending_stiffness, shear_stiffness, lever_arm}
 use Rattle.pipe_element.specs.declared.shapes.Shapes.{Shapes}
+use Rattle.pipe_element.specs.declared.stiffness.Stiffness.{Stiffness}
+
+-- for this pi and this length, each stiffness lies in its interval
+pub record EnclosesStiffness (k : Stiffness) (tube : Tube) (d : Span) (pi length : Fraction) : Type 0 where
+  pub axial : Within k.axial (axial_stiffness tube pi length)
+  pub torsion : Within k.torsion (torsion_stiffness tube pi length)
+  pub bending : Within k.bending (bending_stiffness tube pi length)
+  pub shear : Within k.shear (shear_stiffness tube d pi length)
 
 -- half of d times a number, for d in 10^-6 m
 abbrev pub half_along : Span → Fraction → Axis → Fraction

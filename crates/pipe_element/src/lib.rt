@@ -4,7 +4,5 @@
 mod members;
 mod shapes;
 mod stiffness;
-mod vector;
-mod way;
 
 pub use members::straight;

@@ -1,11 +1,15 @@
-ghost use Rattle.std.specs.Prelude.{◌≡◌, ◌^◌, pos, ◌≤ℤ◌, ◌<ℤ◌, IfOk};
+ghost use Rattle.std.specs.Prelude.{◌≡◌, IfOk};
 ghost use Rattle.flex_interval.specs.Fraction.{Fraction, Within};
 ghost use Rattle.angle_table.specs.Pi.{pi_ends};
-ghost use Rattle.pipe_element.specs.Rounded.{length_of, axial_of, stiffness_of, are_stiffnesses, is_stiffness};
-ghost use Rattle.pipe_element.specs.Stiffnesses.{exact_axial, EnclosesStiffness};
+ghost use Rattle.member_pairs.specs.Tubes.{IsRound};
+ghost use Rattle.member_pairs.specs.Vectors.{parts_of, IsWay};
+ghost use Rattle.pipe_element.specs.ExactStraight.{axial_stiffness};
+ghost use Rattle.pipe_element.specs.Rounded.{axial_of, stiffness_of, are_stiffnesses};
+ghost use Rattle.pipe_element.specs.Shapes.{EnclosesStiffness};
 
 use angle_table::pi;
-use flex_interval::{Iv, IvFault, div, point, ratio, root};
+use flex_interval::{Iv, IvFault, div, ratio};
+use member_pairs::{Tube, Way, divisor, is_stiffness, load, square};
 
 /// The stiffnesses of a straight, in units of 2^-20 N/m.
 #[derive(Clone, Copy)]
@@ -20,34 +24,18 @@ pub struct Stiffness {
     pub shear: Iv,
 }
 
-/// The length from its square in square micrometres, in units of 2^-36 micrometre.
-#[tactic(auto, unfolding(crate::specs::Rounded::length_of))]
-pub fn length(square: i128) -> Result<Iv, IvFault>
-    requires low { pos 0 <ℤ square }
-    requires high { square ≤ℤ pos 900000000000000 }
-    ensures value { result ≡ length_of square }
-{
-    root(point(square), 72)
-}
-
-/// The stiffnesses, where `load` is E (D^2 - d^2), `squares` D^2 + d^2, `divisor` 1000 (1 + nu) and `square` L^2.
+/// The stiffnesses of a tube along a way of this length.
 #[tactic(auto, unfolding(crate::specs::Rounded::stiffness_of))]
-pub fn stiffnesses(
-    load: i128,
-    squares: i128,
-    divisor: i128,
-    square: i128,
-    length: Iv,
-) -> Result<Stiffness, IvFault>
-    requires divisor { pos 0 <ℤ divisor }
-    requires square { pos 0 <ℤ square }
-    ensures value { result ≡ stiffness_of load squares divisor square length }
-    ensures within { IfOk result (λ k. (p l : Fraction) → Within pi_ends p → Within length l → EnclosesStiffness k p l load squares divisor square) }
+pub fn stiffnesses(tube: &Tube, way: &Way, length: Iv) -> Result<Stiffness, IvFault>
+    requires tube { IsRound tube.now }
+    requires way { IsWay way.now }
+    ensures value { result ≡ stiffness_of tube.now way.now length }
+    ensures within { IfOk result (λ k. (p l : Fraction) → Within pi_ends p → Within length l → EnclosesStiffness k tube.now (parts_of way.now) p l) }
 {
-    let axial = axial(load, length)?;
-    let bending = ratio(axial, squares, 16_000_000_000_000)?;
-    let torsion = ratio(bending, 1000, divisor)?;
-    let shear = ratio(bending, 12_000_000_000_000, square)?;
+    let axial = axial(tube, length)?;
+    let bending = ratio(axial, tube.square_sum, 16_000_000_000_000)?;
+    let torsion = ratio(bending, 1000, divisor(tube))?;
+    let shear = ratio(bending, 12_000_000_000_000, square(way))?;
     Ok(Stiffness {
         axial,
         torsion,
@@ -57,12 +45,13 @@ pub fn stiffnesses(
 }
 
 /// EA/L.
-#[tactic(auto, unfolding(crate::specs::Rounded::axial_of, crate::specs::Stiffnesses::exact_axial))]
-fn axial(load: i128, length: Iv) -> Result<Iv, IvFault>
-    ensures value { result ≡ axial_of load length }
-    ensures within { IfOk result (λ e. (p l : Fraction) → Within pi_ends p → Within length l → Within e (exact_axial p l load)) }
+#[tactic(auto, unfolding(crate::specs::Rounded::axial_of))]
+fn axial(tube: &Tube, length: Iv) -> Result<Iv, IvFault>
+    requires { IsRound tube.now }
+    ensures value { result ≡ axial_of tube.now length }
+    ensures within { IfOk result (λ e. (p l : Fraction) → Within pi_ends p → Within length l → Within e (axial_stiffness tube.now p l)) }
 {
-    let load = ratio(pi(), load, 1)?;
+    let load = ratio(pi(), load(tube), 1)?;
     let lengths = ratio(length, 4, 1)?;
     div(load, lengths, 0)
 }
@@ -75,10 +64,4 @@ pub fn are_stiffnesses(k: &Stiffness) -> bool
         && is_stiffness(k.torsion)
         && is_stiffness(k.bending)
         && is_stiffness(k.shear)
-}
-
-fn is_stiffness(kappa: Iv) -> bool
-    ensures { result ≡ is_stiffness kappa }
-{
-    1 <= kappa.lo && kappa.hi < 1 << 60
 }

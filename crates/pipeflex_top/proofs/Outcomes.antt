@@ -4,7 +4,7 @@ use Rattle.std.specs.Prelude.{slice_index, slice_index_or}
 use Rattle.std.specs.List.{flat_map}
 use Rattle.case_run.specs.Causes.{IsElementCause, first_element, IsMatrixCause, matrix_row, IsLoadCause, load_row, IsBreakdownCause, pivot, wide, IsSolveCause, refinement}
 use Rattle.case_run.specs.Certified.{IsModelCause, no_structure, no_matrices, no_margin, IsOwnCause, no_loads, no_unshifted_factor, no_candidate, no_bounds, IsUncertified, by_model, by_case, ShiftFails, no_factor, row_fails, last_place, shift_of, IsResidualCause, residual}
-use Rattle.factor_data.specs.Order.{IsOrder}
+use Rattle.lists.specs.Order.{IsOrder}
 use Rattle.flex_interval.specs.Ends.{Ends}
 use Rattle.flex_interval.specs.declared.fault.Wide.{Wide}
 use Rattle.member_set.specs.declared.members.Member.{Member}

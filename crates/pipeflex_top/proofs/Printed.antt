@@ -2,7 +2,8 @@
 use Rattle.std.proofs.Common.{ℕ, ◌+◌, ◌^◌, List, pos, arith}
 use Rattle.case_run.specs.Certified.{element_member_count}
 use Rattle.case_run.specs.Equilibria.{AreWithin, HoldsAlways, HoldAlways}
-use Rattle.member_set.specs.Realisation.{Vector, Realisation, force_in, fraction, force_fraction}
+use Rattle.member_set.specs.Realisation.{Realisation, force_in, fraction, force_fraction}
+use Rattle.int_laws.specs.Matrices.{Vector}
 use Rattle.model_types.specs.Lists.{Lists}
 use Rattle.model_types.specs.declared.answers.Bounds.{Bounds}
 use Rattle.model_types.specs.declared.answers.CaseAnswer.{CaseAnswer}

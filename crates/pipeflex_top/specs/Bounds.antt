@@ -4,7 +4,8 @@ use Rattle.case_run.specs.Certified.{bounds_of, element_member_count}
 use Rattle.case_run.specs.Equilibria.{OfEquilibria}
 use Rattle.flex_interval.specs.Fraction.{Fraction, Within, scaled}
 use Rattle.member_set.specs.Members.{nothing}
-use Rattle.member_set.specs.Realisation.{Vector, Realisation, force_in, fraction, force_fraction}
+use Rattle.member_set.specs.Realisation.{Realisation, force_in, fraction, force_fraction}
+use Rattle.int_laws.specs.Matrices.{Vector}
 use Rattle.model_types.specs.Lists.{Lists}
 use Rattle.model_types.specs.declared.answers.Bounds.{Bounds}
 use Rattle.model_types.specs.declared.answers.CaseAnswer.{CaseAnswer}

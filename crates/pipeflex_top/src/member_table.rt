@@ -1,6 +1,6 @@
 //! The member table of a model.
 
-ghost use Rattle.std.specs.Prelude.{◌≡◌, ◌++◌, OnOk, IfOk};
+ghost use Rattle.std.specs.Prelude.{◌≡◌, ◌≤◌, ◌++◌, length, OnOk, IfOk};
 ghost use Rattle.std.specs.List.{flat_map};
 ghost use Rattle.model_types.specs.Rules.{Keeps};
 ghost use Rattle.model_types.specs.declared.records.Record.TheVariants as record_of;
@@ -49,14 +49,15 @@ fn push_element(out: &mut Vec<u8>, model: &Model, element: &Element) -> Result<(
     match element_members(model, element) {
         Ok(members) => {
             push_line(out, &[b"element", name, b"straight", b"8"])?;
-            push_kappas(out, &members)?;
+            push_kappas(out, members.as_slice())?;
         }
         Err(Wide) => push_line(out, &[b"element", name, b"wide"])?,
     }
     Ok(())
 }
 
-fn push_kappas(out: &mut Vec<u8>, members: &[Member; 8]) -> Result<(), NoMemory>
+fn push_kappas(out: &mut Vec<u8>, members: &[Member]) -> Result<(), NoMemory>
+    requires { length members.now ≤ 8 }
     ensures { OnOk result (out.new.items ≡ out.old.items ++ flat_map line (kappa_lines 1 members.now)) }
 {
     let mut number = 1;

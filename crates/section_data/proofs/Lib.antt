@@ -1,1 +1,1 @@
-pub mod RatioBounds
+pub mod SmallSums

@@ -6,7 +6,7 @@ ghost use Rattle.model_types.specs.Ranges.{MaterialInForm};
 ghost use Rattle.section_data.specs.Tube.{IsTube, IsHollow, inside_diameter as inside_of, wall_of, square_difference as square_difference_of, exact_area, exact_weight_of, weight_factor, weight_of};
 
 use angle_table::pi;
-use flex_interval::{Iv, add, point, ratio};
+use flex_interval::{Iv, add, point, share};
 use model_types::{Material, Section};
 
 /// The inside diameter, in micrometres.
@@ -93,21 +93,6 @@ fn eightfold(outside: i64) -> i128
     ensures positive { pos 0 <ℤ result }
 {
     8 * i128::from(outside)
-}
-
-/// `a n / m`, for an `a` and an `n` from 0 on with a small product.
-fn share(a: Iv, n: i128, m: i128) -> Iv
-    requires lo { pos 0 ≤ℤ a.lo }
-    requires factor { pos 0 ≤ℤ n }
-    requires positive { pos 0 <ℤ m }
-    requires small { (a.hi *ℤ n) <ℤ pos (2 ^ 126) }
-    ensures value { ratio_of a n m ≡ Ok result }
-    ensures within { (x : Fraction) → Within a x → Within result (scaled x n m) }
-    ensures lo { pos 0 ≤ℤ result.lo }
-    ensures hi { (b : ℤ) → (a.hi *ℤ n) ≤ℤ (b *ℤ m) → result.hi ≤ℤ b }
-{
-    prove!(a.lo <= a.hi);
-    ratio(a, n, m).unwrap()
 }
 
 /// The area of the full wall.

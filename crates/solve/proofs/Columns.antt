@@ -3,7 +3,8 @@ use Rattle.std.proofs.Common.{◌≡◌, ℕ, zero, suc, ◌+◌, ◌<◌, ◌�
 use Rattle.std.proofs.lemmas.Bool.Decides.{nat_tests}
 use Rattle.int_laws.proofs.Sums.{int_sums}
 use Rattle.int_laws.proofs.SumLaws.{sum_below-le_more}
-use Rattle.solve.specs.Substitution.{at, absolute}
+use Rattle.solve.specs.Substitution.{at}
+use Rattle.int_laws.specs.Matrices.{absolute}
 use Rattle.solve.specs.Numerators.{past, gathered, gathered_size}
 
 pub past-nonnegative : (j row : ℕ) (z : ℤ) → pos 0 ≤ℤ past j row (absolute z)

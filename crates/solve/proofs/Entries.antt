@@ -4,11 +4,13 @@ use Rattle.std.proofs.lemmas.List.{get_or_default}
 use Rattle.int_laws.specs.Sums.{sum_below}
 use Rattle.int_laws.proofs.Products.{zero-mul}
 use Rattle.int_laws.proofs.SumLaws.{sum_below-same, sum_below-reindexed}
-use Rattle.factor_data.specs.Order.{IsSpread}
+use Rattle.lists.specs.Order.{IsSpread}
 use Rattle.factor_data.specs.Columns.{Columns, IsFactor, column_rows, column_part, column_entry}
 use Rattle.factor_data.proofs.ColumnLemmas.{part-listed, part-missing}
-use Rattle.factor_data.proofs.OrderLemmas.{contained_or_not, spread-rising}
-use Rattle.solve.specs.Substitution.{at, absolute}
+use Rattle.lists.proofs.UniqueLemmas.{decide_contains}
+use Rattle.lists.proofs.PlaceLemmas.{spread-rising}
+use Rattle.solve.specs.Substitution.{at}
+use Rattle.int_laws.specs.Matrices.{absolute}
 use Rattle.solve.specs.Numerators.{past, taken, taken_size, gathered, gathered_size}
 use Rattle.solve.proofs.ColumnsTaken.{past-none}
 
@@ -18,7 +20,7 @@ place rows i found = (found.0, found.1, get_or_default rows found.0 0 i found.1 
 
 part-weighted : (weight : ℤ → ℤ) (rows : List ℕ) (values : List ℤ) (n i : ℕ) → weight (pos 0) ≡ pos 0 → IsSpread rows n →
     column_part weight (length rows) rows values i ≡ weight (column_entry rows values i)
-part-weighted weight rows values n i none spread = elim (contained_or_not rows i) [
+part-weighted weight rows values n i none spread = elim (decide_contains rows i) [
   | inl found ↦
       let at_place = place rows i found in
       part-listed weight rows values n at_place.0 i spread at_place.1 at_place.2
@@ -46,7 +48,7 @@ sum-past term rows values x n j none spread =
     (λ v inside. ap (λ (z : ℤ). past j (slice_index rows v) (term z (at x (slice_index rows v)))) (sym (part-listed (λ z. z) rows values n v (slice_index rows v) spread inside refl)))
     ∙ sum_below-reindexed (length rows) n (slice_index rows) (λ i. past j i (term (column_entry rows values i) (at x i)))
     spread.in_range spread.apart
-    (λ i _. elim (contained_or_not rows i) [
+    (λ i _. elim (decide_contains rows i) [
       | inl found ↦ inr (place rows i found)
       | inr missing ↦ inl (ap (λ (z : ℤ). past j i (term z (at x i))) (part-missing (λ z. z) rows values i missing)
           ∙ ap (past j i) (none (at x i)) ∙ past-none j i)

@@ -6,11 +6,13 @@ use Rattle.int_laws.specs.Sums.{sum_below}
 use Rattle.int_laws.proofs.Sums.{int_sums}
 use Rattle.int_laws.proofs.SumLaws.{sum_below-same}
 use Rattle.flex_num.specs.Division.{nearest_of}
-use Rattle.factor_data.specs.Order.{IsSpread}
+use Rattle.lists.specs.Order.{IsSpread}
 use Rattle.factor_data.specs.Columns.{column_entry}
-use Rattle.solve.specs.declared.numerators.Numerator.{Numerator}
-use Rattle.solve.specs.Substitution.{Matrix, Vector, at, absolute, Numerator as Sums, IsQuotient, forward_numerator, forward_size, IsForwardBelow, IsForward, ForwardBreaks, backward_numerator, IsBackwardFrom}
-use Rattle.solve.specs.Numerators.{zero_numerator, value_at, size_at, taken, taken_size, past, TakesColumn, IsBeyond}
+use Rattle.flex_num.specs.declared.guarded.GuardedSum.{GuardedSum}
+use Rattle.solve.specs.Substitution.{at, Numerator, IsQuotient, forward_numerator, forward_size, IsForwardBelow, IsForward, ForwardBreaks, backward_numerator, IsBackwardFrom}
+use Rattle.int_laws.specs.Matrices.{Entries, Vector, absolute}
+use Rattle.solve.specs.Numerators.{taken, taken_size, past, TakesColumn, IsBeyond}
+use Rattle.flex_num.specs.Guarded.{zero_sum, value_at, size_at}
 use Rattle.solve.proofs.ColumnsTaken.{past-before}
 use Rattle.solve.proofs.Entries.{taken-whole, taken_size-whole}
 
@@ -23,7 +25,7 @@ at-set_here xs j x inside = get_or-set_same xs j x (pos 0) inside
 pub at-set_other : (xs : List ℤ) (j k : ℕ) (x : ℤ) → k ≢ j → at (slice_set xs j x) k ≡ at xs k
 at-set_other xs j k x apart = rw get_or-set_other
 
-quotient-same : (m n : Sums) (d x y : ℤ) → m.value ≡ n.value → m.size ≡ n.size → x ≡ y → IsQuotient m d x → IsQuotient n d y
+quotient-same : (m n : Numerator) (d x y : ℤ) → m.value ≡ n.value → m.size ≡ n.size → x ≡ y → IsQuotient m d x → IsQuotient n d y
 quotient-same m n d x y value size same q =
     record {
       narrow = subst (λ (z : ℤ). z <ℤ pos (2 ^ 126)) size q.narrow;
@@ -31,27 +33,27 @@ quotient-same m n d x y value size same q =
     }
 
 -- what stands when the columns before j are done
-pub record IsForwardState (n : ℕ) (g : Matrix) (r : Vector) (left : List Numerator) (y : List ℤ) (j : ℕ) : Type 0 where
+pub record IsForwardState (n : ℕ) (g : Entries) (r : Vector) (left : List GuardedSum) (y : List ℤ) (j : ℕ) : Type 0 where
   pub one_unknown_each : length y ≡ n
   pub one_numerator_each : length left ≡ n
   pub solved : IsForwardBelow g r y j
   pub value : (i : ℕ) → j ≤ i → i < n → value_at left i ≡ r i -ℤ sum_below j (λ k. g i k *ℤ at y k)
-  pub size : (i : ℕ) → j ≤ i → i < n → size_at left i ≡ forward_size g r y j i
+  pub size : (i : ℕ) → j ≤ i → i < n → pos (size_at left i) ≡ forward_size g r y j i
 
 -- an unknown at j changes nothing before it
 sum-set : (j m : ℕ) (term : ℕ → ℤ → ℤ) (y : List ℤ) (x : ℤ) → m ≤ j → sum_below m (λ k. term k (at y k)) ≡ sum_below m (λ k. term k (at (slice_set y j x) k))
 sum-set j m term y x below =
     sum_below-same m (λ k. term k (at y k)) (λ k. term k (at (slice_set y j x) k)) (λ k h. ap (term k) (sym (at-set_other y j k x (λ e. absurd (omega arith)))))
 
-forward-solved : (n : ℕ) (g : Matrix) (r : Vector) (left : List Numerator) (y : List ℤ) (j : ℕ) (x : ℤ) → j < n →
+forward-solved : (n : ℕ) (g : Entries) (r : Vector) (left : List GuardedSum) (y : List ℤ) (j : ℕ) (x : ℤ) → j < n →
     IsForwardState n g r left y j → x ≡ nearest_of (value_at left j) (g j j) → IsForwardBelow g r (slice_set y j x) (j + 1)
 forward-solved n g r left y j x inside state is k below = elim (same_or_less k j below) [
   | inl here ↦
       let value : value_at left j ≡ r j -ℤ sum_below j (λ k. g j k *ℤ at (slice_set y j x) k) =
       state.value j (omega arith) inside ∙ ap (λ (z : ℤ). r j -ℤ z) (sum-set j j (λ k z. g j k *ℤ z) y x (omega arith)) in
-      let size : size_at left j ≡ absolute (r j) +ℤ sum_below j (λ k. absolute (g j k *ℤ at (slice_set y j x) k)) =
+      let size : pos (size_at left j) ≡ absolute (r j) +ℤ sum_below j (λ k. absolute (g j k *ℤ at (slice_set y j x) k)) =
       state.size j (omega arith) inside ∙ ap (λ (z : ℤ). absolute (r j) +ℤ z) (sum-set j j (λ k z. absolute (g j k *ℤ z)) y x (omega arith)) in
-      let small = (get_or left j zero_numerator).narrow in
+      let small = (get_or left j zero_sum).narrow in
       let at_j : IsQuotient (forward_numerator g r (slice_set y j x) j) (g j j) (at (slice_set y j x) j) =
       record {
         narrow = subst (λ (z : ℤ). z <ℤ pos (2 ^ 126)) size (omega (arith, int_sums, small));
@@ -66,7 +68,7 @@ forward-solved n g r left y j x inside state is k below = elim (same_or_less k j
 ]
 
 -- one column more
-pub forward-step : (n : ℕ) (g : Matrix) (r : Vector) (left next : List Numerator) (y : List ℤ) (j : ℕ) (x : ℤ) (rows : List ℕ) (values : List ℤ) → j < n →
+pub forward-step : (n : ℕ) (g : Entries) (r : Vector) (left next : List GuardedSum) (y : List ℤ) (j : ℕ) (x : ℤ) (rows : List ℕ) (values : List ℤ) → j < n →
     IsForwardState n g r left y j → x ≡ nearest_of (value_at left j) (g j j) → IsSpread rows n → ((i : ℕ) → g i j ≡ column_entry rows values i) →
     TakesColumn left next rows values j x (length rows) → IsForwardState n g r next (slice_set y j x) (j + 1)
 forward-step n g r left next y j x rows values inside state is spread column takes =
@@ -91,7 +93,7 @@ forward-step n g r left next y j x rows values inside state is spread column tak
     }
 
 -- a column that would make a numerator too broad
-pub forward-breaks : (n : ℕ) (g : Matrix) (r : Vector) (left : List Numerator) (y : List ℤ) (j : ℕ) (x : ℤ) (rows : List ℕ) (values : List ℤ) → j < n →
+pub forward-breaks : (n : ℕ) (g : Entries) (r : Vector) (left : List GuardedSum) (y : List ℤ) (j : ℕ) (x : ℤ) (rows : List ℕ) (values : List ℤ) → j < n →
     IsForwardState n g r left y j → x ≡ nearest_of (value_at left j) (g j j) → IsSpread rows n → ((i : ℕ) → g i j ≡ column_entry rows values i) →
     IsBeyond left rows values j x → ForwardBreaks n g r
 forward-breaks n g r left y j x rows values inside state is spread column beyond =
@@ -125,7 +127,7 @@ quotient_sum-set n j k term z x before = sum_below-same n (λ i. past k i (term 
         ]
 
 -- one unknown more, where those after it are solved
-pub backward-step : (n : ℕ) (g : Matrix) (s : Vector) (z : List ℤ) (j : ℕ) (x value : ℤ) (size : ℕ) → j < n → length z ≡ n →
+pub backward-step : (n : ℕ) (g : Entries) (s : Vector) (z : List ℤ) (j : ℕ) (x value : ℤ) (size : ℕ) → j < n → length z ≡ n →
     IsBackwardFrom n g s z (j + 1) → size < 2 ^ 126 →
     value ≡ s j -ℤ sum_below n (λ i. past j i (g i j *ℤ at z i)) → pos size ≡ absolute (s j) +ℤ sum_below n (λ i. past j i (absolute (g i j *ℤ at z i))) →
     x ≡ nearest_of value (g j j) → IsBackwardFrom n g s (slice_set z j x) j
@@ -150,19 +152,19 @@ backward-step n g s z j x value size inside one_each after small value_is size_i
     cases k h = search arith
 
 -- ---- a right side by other words
-forward_below-sides : (n : ℕ) (g : Matrix) (r s : Vector) (y : List ℤ) (j : ℕ) → j ≤ n → ((k : ℕ) → k < n → r k ≡ s k) → IsForwardBelow g r y j → IsForwardBelow g s y j
+forward_below-sides : (n : ℕ) (g : Entries) (r s : Vector) (y : List ℤ) (j : ℕ) → j ≤ n → ((k : ℕ) → k < n → r k ≡ s k) → IsForwardBelow g r y j → IsForwardBelow g s y j
 forward_below-sides n g r s y j inside same solved k below =
     quotient-same (forward_numerator g r y k) (forward_numerator g s y k) (g k k) (at y k) (at y k)
     (ap (λ (z : ℤ). z -ℤ sum_below k (λ i. g k i *ℤ at y i)) (same k (omega arith)))
     (ap (λ (z : ℤ). absolute z +ℤ sum_below k (λ i. absolute (g k i *ℤ at y i))) (same k (omega arith)))
     refl (solved k below)
 
-pub forward-sides : (m n : ℕ) (g : Matrix) (r s : Vector) (y : List ℤ) → m ≡ n → ((k : ℕ) → k < n → r k ≡ s k) → IsForward m g r y → IsForward n g s y
+pub forward-sides : (m n : ℕ) (g : Entries) (r s : Vector) (y : List ℤ) → m ≡ n → ((k : ℕ) → k < n → r k ≡ s k) → IsForward m g r y → IsForward n g s y
 forward-sides m n g r s y size same solves =
     let here = subst (λ (k : ℕ). IsForward k g r y) size solves in
     record { one_each = here.one_each; solved = forward_below-sides n g r s y n (omega arith) same here.solved }
 
-pub forward_breaks-sides : (m n : ℕ) (g : Matrix) (r s : Vector) → m ≡ n → ((k : ℕ) → k < n → r k ≡ s k) → ForwardBreaks m g r → ForwardBreaks n g s
+pub forward_breaks-sides : (m n : ℕ) (g : Entries) (r s : Vector) → m ≡ n → ((k : ℕ) → k < n → r k ≡ s k) → ForwardBreaks m g r → ForwardBreaks n g s
 forward_breaks-sides m n g r s size same breaks =
     let here = subst (λ (k : ℕ). ForwardBreaks k g r) size breaks in
     let side = ap (λ (z : ℤ). absolute z +ℤ sum_below here.known (λ k. absolute (g here.position k *ℤ at here.y k))) (same here.position here.inside) in

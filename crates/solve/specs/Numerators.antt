@@ -1,23 +1,15 @@
 -- Lists of numerators, and what a column takes from them.
-use Rattle.std.specs.Prelude.{ℕ, ◌^◌, ◌<◌, ◌≡◌, List, length, slice_index, slice_index_or, nat_lt, if◌then◌else◌, ℤ, pos, ◌+ℤ◌, ◌-ℤ◌, ◌*ℤ◌, ◌≤ℤ◌}
-use Rattle.std.proofs.Common.{lit<, lit≤}
+use Rattle.std.specs.Prelude.{ℕ, ◌^◌, ◌<◌, ◌≡◌, List, length, slice_index, nat_lt, if◌then◌else◌, ℤ, pos, ◌+ℤ◌, ◌-ℤ◌, ◌*ℤ◌, ◌≤ℤ◌}
 use Rattle.int_laws.specs.Sums.{sum_below}
 use Rattle.factor_data.specs.Columns.{column_part}
-use Rattle.solve.specs.declared.numerators.Numerator.{Numerator}
-use Rattle.solve.specs.Substitution.{at, absolute}
-
-abbrev pub zero_numerator : Numerator
-zero_numerator = record { value = pos 0; size = 0; bounded = lit≤ tt; narrow = lit< tt }
-
-abbrev pub value_at : List Numerator → ℕ → ℤ
-value_at xs i = (slice_index_or xs i zero_numerator).value
-
-abbrev pub size_at : List Numerator → ℕ → ℤ
-size_at xs i = pos (slice_index_or xs i zero_numerator).size
+use Rattle.flex_num.specs.declared.guarded.GuardedSum.{GuardedSum}
+use Rattle.flex_num.specs.Guarded.{value_at, size_at}
+use Rattle.solve.specs.Substitution.{at}
+use Rattle.int_laws.specs.Matrices.{absolute}
 
 -- nothing is taken yet: each size is that of the value alone
-abbrev pub IsWhole : List Numerator → Type 0
-IsWhole xs = (i : ℕ) → i < length xs → size_at xs i ≡ absolute (value_at xs i)
+abbrev pub IsWhole : List GuardedSum → Type 0
+IsWhole xs = (i : ℕ) → i < length xs → pos (size_at xs i) ≡ absolute (value_at xs i)
 
 -- what the first places of a column, times an unknown, are in row i, and their size
 abbrev pub taken : List ℕ → List ℤ → ℤ → ℕ → ℕ → ℤ
@@ -27,17 +19,17 @@ abbrev pub taken_size : List ℕ → List ℤ → ℤ → ℕ → ℕ → ℤ
 taken_size rows values unknown places i = column_part (λ z. absolute (z *ℤ unknown)) places rows values i
 
 -- each numerator past j has lost the column's entry times the unknown
-pub record TakesColumn (old new : List Numerator) (rows : List ℕ) (values : List ℤ) (j : ℕ) (unknown : ℤ) (places : ℕ) : Type 0 where
+pub record TakesColumn (old new : List GuardedSum) (rows : List ℕ) (values : List ℤ) (j : ℕ) (unknown : ℤ) (places : ℕ) : Type 0 where
   pub length_kept : length new ≡ length old
   pub value : (i : ℕ) → j < i → i < length old → value_at new i ≡ value_at old i -ℤ taken rows values unknown places i
-  pub size : (i : ℕ) → j < i → i < length old → size_at new i ≡ size_at old i +ℤ taken_size rows values unknown places i
+  pub size : (i : ℕ) → j < i → i < length old → pos (size_at new i) ≡ pos (size_at old i) +ℤ taken_size rows values unknown places i
 
 -- a numerator past j would become too broad
-pub record IsBeyond (old : List Numerator) (rows : List ℕ) (values : List ℤ) (j : ℕ) (unknown : ℤ) : Type 0 where
+pub record IsBeyond (old : List GuardedSum) (rows : List ℕ) (values : List ℤ) (j : ℕ) (unknown : ℤ) : Type 0 where
   pub row : ℕ
   pub past : j < row
   pub inside : row < length old
-  pub broad : pos (2 ^ 126) ≤ℤ (size_at old row +ℤ taken_size rows values unknown (length rows) row)
+  pub broad : pos (2 ^ 126) ≤ℤ (pos (size_at old row) +ℤ taken_size rows values unknown (length rows) row)
 
 -- z where the row is past j
 abbrev pub past : ℕ → ℕ → ℤ → ℤ

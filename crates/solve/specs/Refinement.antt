@@ -2,19 +2,16 @@
 -- the solution keeps its digits, and adds the solution. Units: residuals in 2^-40 N, displacements in 2^-56 m, the entries
 -- of the factor in 2^-36 of the root of N/m, so that p + q = 88 digits of scaling bring G G^T z = 2^88 r back to z.
 use Rattle.std.specs.Prelude.{ℕ, zero, suc, ◌-◌, ◌*◌, ◌^◌, ◌<◌, ◌≤◌, ◌≡◌, List, length, replicate, ℤ, pos, ◌+ℤ◌, ◌*ℤ◌, unsigned_abs, Ok, IsErr}
-use Rattle.flex_num.specs.Division.{floor_of}
 use Rattle.flex_interval.specs.Ends.{Ends}
+use Rattle.flex_interval.specs.Operations.{middle_of}
 use Rattle.member_set.specs.declared.members.Law.{Law}
 use Rattle.member_set.specs.declared.members.Built.{Built}
 use Rattle.member_set.specs.Members.{row_count, IsModerate}
 use Rattle.member_set.specs.Interval.{Outcome, residual_of}
 use Rattle.factor_data.specs.Columns.{Columns, entry}
 use Rattle.factor_data.specs.Order.{freedom_at}
-use Rattle.solve.specs.Substitution.{Vector, at, IsForward, ForwardBreaks, IsBackward, BackwardBreaks}
-
--- the middle of an interval, rounded down
-abbrev pub middle_of : Ends → ℤ
-middle_of e = floor_of (e.lo +ℤ e.hi) (pos 2)
+use Rattle.solve.specs.Substitution.{at, IsForward, ForwardBreaks, IsBackward, BackwardBreaks}
+use Rattle.int_laws.specs.Matrices.{Vector}
 
 -- m is the middle of the interval that there is
 pub record IsMiddle (r : Outcome) (m : ℤ) : Type 0 where

@@ -2,16 +2,19 @@ ghost use Rattle.std.specs.Prelude.{◌≡◌, ℕ, ◌+◌, ◌*◌, ◌/◌, �
 ghost use Rattle.member_set.specs.Members.{IsBuilt, FitsBuilt, IsModerate, row_count, node_count};
 ghost use Rattle.member_set.specs.Interval.{residual_of};
 ghost use Rattle.factor_data.specs.Columns.{entry};
-ghost use Rattle.factor_data.specs.Order.{IsOrder, freedom_at};
-ghost use Rattle.solve.specs.Numerators.{value_at, IsWhole};
+ghost use Rattle.factor_data.specs.Order.{freedom_at};
+ghost use Rattle.lists.specs.Order.{IsOrder};
+ghost use Rattle.flex_num.specs.Guarded.{value_at};
+ghost use Rattle.solve.specs.Numerators.{IsWhole};
 ghost use Rattle.solve.specs.Substitution.{at};
-ghost use Rattle.solve.specs.Refinement.{middle_of, AreMiddles, HasNoResidual, HasRoom, IsScale, HasNoRoom, forward_side, IsMoved, MovesTooFar, problem, IsTurn, TurnBreaks, LeadTo, IsCandidate, IsTooWide};
+ghost use Rattle.solve.specs.Refinement.{AreMiddles, HasNoResidual, HasRoom, IsScale, HasNoRoom, forward_side, IsMoved, MovesTooFar, problem, IsTurn, TurnBreaks, LeadTo, IsCandidate, IsTooWide};
 
 use crate::fault::SolveFault;
-use crate::numerators::Numerator;
+use crate::numerators::scaled;
 use crate::substitution::{backward, forward, power_of_two};
 use factor_data::Factor;
 use flex_interval::{Iv, Wide, point};
+use flex_num::GuardedSum;
 use member_set::{Built, Law, member_forces, residual_from};
 use std::alloc::Global;
 
@@ -53,7 +56,7 @@ pub fn candidate(
     let mut u = vec![in alloc; 0; rows]?;
     let mut forces = vec![in alloc; point(0); laws.len()]?;
     let mut x = vec![in alloc; 0; rows]?;
-    let mut left = vec![in alloc; Numerator::ZERO; rows]?;
+    let mut left = vec![in alloc; GuardedSum::ZERO; rows]?;
     refine(b, laws, loads, f, &mut u, &mut forces, &mut x, &mut left)?;
     Ok(u)
 }
@@ -67,7 +70,7 @@ fn refine(
     u: &mut [i128],
     forces: &mut [Iv],
     x: &mut [i128],
-    left: &mut [Numerator],
+    left: &mut [GuardedSum],
 ) -> Result<(), Wide>
     requires built { IsBuilt b.now }
     requires lists { FitsBuilt b.now laws.now loads.now }
@@ -95,7 +98,7 @@ fn turn(
     u: &mut [i128],
     forces: &mut [Iv],
     x: &mut [i128],
-    left: &mut [Numerator],
+    left: &mut [GuardedSum],
 ) -> Result<(), Wide>
     requires built { IsBuilt b.now }
     requires lists { FitsBuilt b.now laws.now loads.now }
@@ -137,16 +140,9 @@ fn middles(
 {
     member_forces(b, laws, u, forces)?;
     for row in 0..r.len() {
-        r[row] = middle(residual_from(b, forces, loads, row as u32)?);
+        r[row] = flex_interval::middle(residual_from(b, forces, loads, row as u32)?);
     }
     Ok(())
-}
-
-/// The middle of an interval, rounded down.
-fn middle(e: Iv) -> i128
-    ensures { result ≡ middle_of e }
-{
-    flex_num::floor_div(e.lo + e.hi, 2)
 }
 
 /// By how many digits numbers are scaled: as many as there is room for.
@@ -187,7 +183,7 @@ fn row_at(order: &[u32], position: usize) -> usize
 }
 
 /// The right side of the forward substitution: scaled numbers of rows, by positions.
-fn scale_sides(order: &[u32], r: &[i128], digits: u32, left: &mut [Numerator])
+fn scale_sides(order: &[u32], r: &[i128], digits: u32, left: &mut [GuardedSum])
     requires order { IsOrder order.now }
     requires six_rows_each { length r.now ≡ 6 * length order.now }
     requires one_each { length left.old ≡ length r.now }
@@ -198,7 +194,7 @@ fn scale_sides(order: &[u32], r: &[i128], digits: u32, left: &mut [Numerator])
 {
     let scale = power_of_two(digits);
     for j in 0..r.len() {
-        left[j] = Numerator::scaled(r[row_at(order, j)], scale);
+        left[j] = scaled(r[row_at(order, j)], scale);
     }
 }
 

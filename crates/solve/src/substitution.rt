@@ -1,14 +1,17 @@
 ghost use Rattle.std.specs.Prelude.{◌≡◌, ℕ, ◌+◌, ◌*◌, ◌^◌, ◌<◌, ◌≤◌, length, All, ℤ, pos, ◌-ℤ◌, ◌+ℤ◌, ◌*ℤ◌, ◌<ℤ◌, ◌≤ℤ◌, OnOk, OnErr, IfOk, IfErr, slice_index};
 ghost use Rattle.factor_data.specs.Columns.{entry, IsFactor};
-ghost use Rattle.solve.specs.Numerators.{value_at, size_at, IsWhole, TakesColumn, IsBeyond, gathered, gathered_size};
-ghost use Rattle.solve.specs.Substitution.{at, absolute, IsForward, ForwardBreaks, IsBackward, BackwardBreaks};
+ghost use Rattle.flex_num.specs.Guarded.{value_at};
+ghost use Rattle.solve.specs.Numerators.{IsWhole, TakesColumn, IsBeyond, gathered, gathered_size};
+ghost use Rattle.solve.specs.Substitution.{at, IsForward, ForwardBreaks, IsBackward, BackwardBreaks};
+ghost use Rattle.int_laws.specs.Matrices.{absolute};
 
-use crate::numerators::Numerator;
+use crate::numerators::{less_past, product, quotient};
 use factor_data::Factor;
 use flex_interval::Wide;
+use flex_num::GuardedSum;
 
 /// Solves `G y = r`, column after column. `left` has the right side, and what is left of it afterwards.
-pub fn forward(f: &Factor, left: &mut [Numerator], y: &mut [i128]) -> Result<(), Wide>
+pub fn forward(f: &Factor, left: &mut [GuardedSum], y: &mut [i128]) -> Result<(), Wide>
     requires numbered { length y.old ≤ 2 ^ 32 }
     requires factor { 6 * length f.now.order ≡ length y.old }
     requires diagonal { (j : ℕ) → j < length y.old → pos 0 <ℤ entry f.now j j }
@@ -19,7 +22,7 @@ pub fn forward(f: &Factor, left: &mut [Numerator], y: &mut [i128]) -> Result<(),
 {
     for j in 0..y.len() {
         let position = j as u32;
-        let unknown = left[j].over(f.get(position, position));
+        let unknown = quotient(left[j], f.get(position, position));
         y[j] = unknown;
         let (rows, values) = f.column(position);
         scatter(rows, values, position, unknown, left)?;
@@ -33,7 +36,7 @@ fn scatter(
     values: &[i64],
     j: u32,
     unknown: i128,
-    left: &mut [Numerator],
+    left: &mut [GuardedSum],
 ) -> Result<(), Wide>
     requires aligned { length values.now ≡ length rows.now }
     requires in_range { All (λ row. row < length left.old) rows.now }
@@ -42,7 +45,7 @@ fn scatter(
 {
     for v in 0..rows.len() {
         let row = rows[v] as usize;
-        left[row] = left[row].less_past(j, rows[v], values[v], unknown)?;
+        left[row] = less_past(left[row], j, rows[v], values[v], unknown)?;
     }
     Ok(())
 }
@@ -63,7 +66,7 @@ pub fn backward(f: &Factor, digits: u32, x: &mut [i128]) -> Result<(), Wide>
         let position = j as u32;
         let (rows, values) = f.column(position);
         let numerator = gather(rows, values, position, scale, x)?;
-        x[j] = numerator.over(f.get(position, position));
+        x[j] = quotient(numerator, f.get(position, position));
     }
     Ok(())
 }
@@ -77,7 +80,7 @@ pub fn power_of_two(digits: u32) -> i128
 }
 
 /// The scaled number at position `j` less a column's entries past it, each times the unknown of its row.
-fn gather(rows: &[u32], values: &[i64], j: u32, scale: i128, x: &[i128]) -> Result<Numerator, Wide>
+fn gather(rows: &[u32], values: &[i64], j: u32, scale: i128, x: &[i128]) -> Result<GuardedSum, Wide>
     requires aligned { length values.now ≡ length rows.now }
     requires in_range { All (λ row. row < length x.now) rows.now }
     requires position { j < length x.now }
@@ -85,9 +88,9 @@ fn gather(rows: &[u32], values: &[i64], j: u32, scale: i128, x: &[i128]) -> Resu
     ensures size { IfOk result (λ n. pos n.size ≡ absolute (at x.now j *ℤ scale) +ℤ gathered_size rows.now values.now x.now j (length rows.now)) }
     ensures broad { OnErr result (pos (2 ^ 126) ≤ℤ (absolute (at x.now j *ℤ scale) +ℤ gathered_size rows.now values.now x.now j (length rows.now))) }
 {
-    let mut numerator = Numerator::of(x[j as usize], scale)?;
+    let mut numerator = product(x[j as usize], scale)?;
     for v in 0..rows.len() {
-        numerator = numerator.less_past(j, rows[v], values[v], x[rows[v] as usize])?;
+        numerator = less_past(numerator, j, rows[v], values[v], x[rows[v] as usize])?;
     }
     Ok(numerator)
 }

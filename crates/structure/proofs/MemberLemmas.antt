@@ -1,8 +1,7 @@
 -- The members of a model's elements and restraints.
-use Rattle.std.proofs.Common.{◌≡◌, ℕ, zero, suc, ◌+◌, ◌^◌, ◌<◌, Bool, true, false, ◌&&◌, if◌then◌else◌, List, ◌++◌, length, get_or, All, inl, inr, sym, ap, subst, refl, arith, add-one, ℤ, pos, ◌+ℤ◌, ◌*ℤ◌, ◌≤ℤ◌, ◌<ℤ◌, int_le, int_lt, Result, Ok, Err}
+use Rattle.std.proofs.Common.{◌≡◌, ℕ, zero, suc, ◌+◌, ◌^◌, ◌<◌, Bool, true, false, ◌&&◌, if◌then◌else◌, List, ◌++◌, length, get_or, All, inl, inr, sym, ap, subst, arith, add-one, ℤ, pos, ◌<ℤ◌, Result, Ok, Err}
 use Rattle.std.proofs.lemmas.Int.{ints}
-use Rattle.std.proofs.lemmas.Bool.{and_parts, cases_eq}
-use Rattle.std.proofs.lemmas.List.Elements.{All-from_recursion}
+use Rattle.std.proofs.lemmas.Bool.{cases_eq}
 use Rattle.std.proofs.lemmas.List.{get_or_read}
 use Rattle.flex_interval.specs.Ends.{Ends}
 use Rattle.flex_interval.specs.Operations.{or_wide}
@@ -16,11 +15,12 @@ use Rattle.model_types.specs.declared.records.Node.{Node}
 use Rattle.model_types.specs.declared.records.Section.{Section}
 use Rattle.model_types.specs.declared.records.Record.TheVariants as record_of
 use Rattle.model_types.specs.Rules.{IsModel, Keeps}
-use Rattle.pipe_element.specs.ExactStraight.{Tube}
-use Rattle.pipe_element.specs.Span.{square_of}
-use Rattle.pipe_element.specs.Vectors.{way_of, parts_of}
-use Rattle.pipe_element.specs.Rounded.{length_of, stiffness_of, shapes_of, is_stiffness, are_stiffnesses, are_shapes}
-use Rattle.pipe_element.specs.Straight.{straight_of, tube_of, limited, member, members_of as straight_members}
+use Rattle.member_pairs.specs.Lengths.{length_of}
+use Rattle.member_pairs.specs.Pairs.{IsMemberOf}
+use Rattle.member_pairs.specs.Tubes.{tube_of}
+use Rattle.member_pairs.specs.Vectors.{way_of, parts_of}
+use Rattle.pipe_element.specs.Rounded.{stiffness_of, shapes_of, are_stiffnesses, are_shapes}
+use Rattle.pipe_element.specs.Straight.{straight_of, limited, members_of as straight_members}
 use Rattle.pipe_element.specs.declared.shapes.Shapes.{Shapes}
 use Rattle.pipe_element.specs.declared.stiffness.Stiffness.{Stiffness}
 use Rattle.structure.specs.Elements.{members_of, element_at, no_element, from_of, to_of, section_of, material_of}
@@ -47,83 +47,13 @@ element_members-wide m n before fault is here (suc k) past =
       | inr apart ↦ element_members-stays m k n (element_members-wide m n before fault is here k (omega arith))
     ]
 
--- ---- the members of a straight
-
--- what a step answered, where the whole has an answer
-or_wide-ok : {A B : Type 0} (r : Result A IvFault) (next : A → Result B Wide) (b : B) → or_wide r next ≡ Ok b → (a : A) × (next a ≡ Ok b)
-or_wide-ok (Ok a) next b is = (a, is)
-or_wide-ok (Err e) next b is = absurd (cc)
-
-chosen : (t : Bool) (x y : List Member) (w : Wide) → ((if t then Ok x else Err w) ≡ Ok y) → (t ≡ true) × (x ≡ y)
-chosen true x y w is = (refl, cc)
-chosen false x y w is = absurd (cc)
-
-at_least : (a b : ℤ) → int_le a b ≡ true → a ≤ℤ b
-at_least a b is = search arith
-
-below : (a b : ℤ) → int_lt a b ≡ true → a <ℤ b
-below a b is = search arith
+-- ---- the members of an element
 
 higher : (a : ℤ) → a <ℤ pos (2 ^ 60) → a <ℤ pos (2 ^ 61)
 higher a is = omega (arith, ints)
 
-is_stiffness-bounds : (e : Ends) → is_stiffness e ≡ true → (pos 1 ≤ℤ e.lo) × (e.hi <ℤ pos (2 ^ 61))
-is_stiffness-bounds e is =
-    let both = and_parts (int_le (pos 1) e.lo) (int_lt e.hi (pos (2 ^ 60))) is in
-    let low = both.0 in
-    let high = both.1 in
-    (at_least (pos 1) e.lo low, higher e.hi (below e.hi (pos (2 ^ 60)) high))
-
-sound : (e : Element) (kappa : Ends) (w : List Ends) (nodes : ℕ) → e.from.0 < nodes → e.to.0 < nodes → is_stiffness kappa ≡ true → IsSound nodes (member e kappa w)
-sound e kappa w nodes from to is =
-    let bounds = is_stiffness-bounds kappa is in
-    record { first_node = from; second_node = to; low = bounds.0; high = bounds.1 }
-
-straight_members-sound : (e : Element) (k : Stiffness) (w : Shapes) (nodes : ℕ) → e.from.0 < nodes → e.to.0 < nodes → are_stiffnesses k ≡ true → All (IsSound nodes) (straight_members e k w)
-straight_members-sound e k w nodes from to are =
-    let pairs = and_parts (is_stiffness k.axial && is_stiffness k.torsion) (is_stiffness k.bending && is_stiffness k.shear) are in
-    let along = and_parts (is_stiffness k.axial) (is_stiffness k.torsion) pairs.0 in
-    let across = and_parts (is_stiffness k.bending) (is_stiffness k.shear) pairs.1 in
-    let bending = λ (v : List Ends). sound e k.bending v nodes from to across.0 in
-    let shear = λ (v : List Ends). sound e k.shear v nodes from to across.1 in
-    All-from_recursion (IsSound nodes) (straight_members e k w) (
-      sound e k.axial _ nodes from to along.0,
-      (
-        sound e k.torsion _ nodes from to along.1,
-        (bending _, (bending _, (bending _, (shear _, (shear _, (shear _, tt)))))),
-      ),
-    )
-
-limited-from : (e : Element) (k : Stiffness) (w : Shapes) (members : List Member) → limited e k w ≡ Ok members → (are_stiffnesses k ≡ true) × (straight_members e k w ≡ members)
-limited-from e k w members is =
-    let t = chosen (are_stiffnesses k && are_shapes w) (straight_members e k w) members (record {}) is in
-    let both = and_parts (are_stiffnesses k) (are_shapes w) t.0 in
-    (both.0, t.1)
-
--- the stiffnesses and shapes that the members are made of
-straight-from : (e : Element) (a b : Node) (s : Section) (m : Material) (members : List Member) → straight_of e a b s m ≡ Ok members → (k : Stiffness) × (w : Shapes) × (are_stiffnesses k ≡ true) × (straight_members e k w ≡ members)
-unfolding straight_of
-straight-from e a b s m members is =
-    let tube : Tube = tube_of s m in
-    let way = way_of a b in
-    let square = square_of (parts_of way) in
-    let stiffness = stiffness_of (tube.modulus *ℤ tube.square_difference) tube.square_sum (pos 1000 +ℤ tube.poisson_ratio) square in
-    let with_length = λ (length : Ends) (k : Stiffness). or_wide (shapes_of way length) (limited e k) in
-    let l = or_wide-ok (length_of square) (λ length. or_wide (stiffness length) (with_length length)) members is in
-    let k = or_wide-ok (stiffness l.0) (with_length l.0) members l.1 in
-    let w = or_wide-ok (shapes_of way l.0) (limited e k.0) members k.1 in
-    let made = limited-from e k.0 w.0 members w.1 in
-    (k.0, w.0, made.0, made.1)
-
-straight-sound : (e : Element) (a b : Node) (s : Section) (m : Material) (members : List Member) (nodes : ℕ) → e.from.0 < nodes → e.to.0 < nodes → straight_of e a b s m ≡ Ok members → All (IsSound nodes) members
-straight-sound e a b s m members nodes from to is =
-    let made = straight-from e a b s m members is in
-    subst (All (IsSound nodes)) made.3 (straight_members-sound e made.0 made.1 nodes from to made.2)
-
-straight-count : (e : Element) (a b : Node) (s : Section) (m : Material) (members : List Member) → straight_of e a b s m ≡ Ok members → length members ≡ 8
-straight-count e a b s m members is =
-    let made = straight-from e a b s m members is in
-    ap length (sym made.3)
+sound : (e : Element) (nodes : ℕ) → e.from.0 < nodes → e.to.0 < nodes → (m : Member) → IsMemberOf e m → IsSound nodes m
+sound e nodes from to m is = record { first_node = rw is.first_node from; second_node = rw is.second_node to; low = is.low; high = higher m.kappa.hi is.high }
 
 -- ---- in a model
 
@@ -133,11 +63,33 @@ members-read m elements n e r same inside is value =
     let at : e ≡ get_or m.elements n no_element = subst (λ (xs : List Element). e ≡ get_or xs n no_element) same (get_or_read elements n e inside is no_element) in
     sym (subst (λ (x : Element). r ≡ members_of m x) at value)
 
-pub members-sound : (m : Lists) → IsModel m → (n : ℕ) → n < length m.elements → (more : List Member) → members_of m (element_at m n) ≡ Ok more → All (IsSound (length m.nodes)) more
-members-sound m model n inside more is =
-    let e = element_at m n in
-    let keeps : Keeps m (record_of.Element e) = model.kept.elements n no_element inside in
-    straight-sound e (from_of m e) (to_of m e) (section_of m e) (material_of m (section_of m e)) more (length m.nodes) keeps.known.0 keeps.known.1.0 is
+pub members-sound : (m : Lists) → IsModel m → (n : ℕ) → n < length m.elements → (more : List Member) → All (IsMemberOf (element_at m n)) more → All (IsSound (length m.nodes)) more
+members-sound m model n inside more own =
+    let keeps : Keeps m (record_of.Element (element_at m n)) = model.kept.elements n no_element inside in
+    λ k d here. sound (element_at m n) (length m.nodes) keeps.known.0 keeps.known.1.0 _ (own k d here)
+
+-- ---- how many members a straight has
+
+or_wide-ok : {A B : Type 0} (r : Result A IvFault) (next : A → Result B Wide) (b : B) → or_wide r next ≡ Ok b → (a : A) × (next a ≡ Ok b)
+or_wide-ok (Ok a) next b is = (a, is)
+or_wide-ok (Err e) next b is = absurd (cc)
+
+chosen : (t : Bool) (x y : List Member) (w : Wide) → ((if t then Ok x else Err w) ≡ Ok y) → x ≡ y
+chosen true x y w is = cc
+chosen false x y w is = absurd (cc)
+
+limited-count : (e : Element) (k : Stiffness) (w : Shapes) (members : List Member) → limited e k w ≡ Ok members → length members ≡ 8
+limited-count e k w members is = ap length (sym (chosen (are_stiffnesses k && are_shapes w) (straight_members e k w) members (record {}) is))
+
+straight-count : (e : Element) (a b : Node) (s : Section) (m : Material) (members : List Member) → straight_of e a b s m ≡ Ok members → length members ≡ 8
+unfolding straight_of
+straight-count e a b s m members is =
+    let way = way_of a b in
+    let with_length = λ (length : Ends) (k : Stiffness). or_wide (shapes_of way length) (limited e k) in
+    let l = or_wide-ok (length_of (parts_of way)) (λ length. or_wide (stiffness_of (tube_of s m) way length) (with_length length)) members is in
+    let k = or_wide-ok (stiffness_of (tube_of s m) way l.0) (with_length l.0) members l.1 in
+    let w = or_wide-ok (shapes_of way l.0) (limited e k.0) members k.1 in
+    limited-count e k.0 w.0 members w.1
 
 pub members-count : (m : Lists) (n : ℕ) (more : List Member) → members_of m (element_at m n) ≡ Ok more → length more ≡ 8
 members-count m n more is =

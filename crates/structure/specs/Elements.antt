@@ -5,14 +5,16 @@ use Rattle.flex_interval.specs.declared.fault.Wide.{Wide}
 use Rattle.member_set.specs.declared.members.Member.{Member}
 use Rattle.model_types.specs.Lists.{Lists}
 use Rattle.model_types.specs.declared.records.Element.{Element}
+use Rattle.model_types.specs.declared.records.Shape.{Shape}
 use Rattle.model_types.specs.declared.records.Shape.TheVariants.{Straight}
 use Rattle.model_types.specs.declared.records.Material.{Material}
 use Rattle.model_types.specs.declared.records.Node.{Node}
 use Rattle.model_types.specs.declared.records.Section.{Section}
-use Rattle.pipe_element.specs.ExactStraight.{Tube}
-use Rattle.pipe_element.specs.Span.{Span}
-use Rattle.pipe_element.specs.Straight.{straight_of, tube_of as tube_of_section}
-use Rattle.pipe_element.specs.Vectors.{way_of, parts_of}
+use Rattle.member_pairs.specs.Span.{Span}
+use Rattle.member_pairs.specs.Tubes.{tube_of as tube_of_section}
+use Rattle.member_pairs.specs.Vectors.{way_of, parts_of}
+use Rattle.member_pairs.specs.declared.tube.Tube.{Tube}
+use Rattle.pipe_element.specs.Straight.{straight_of}
 
 -- what stands for a record that isn't there
 abbrev pub no_node : Node
@@ -51,6 +53,10 @@ tube_of m e = tube_of_section (section_of m e) (material_of m (section_of m e))
 -- the way from its first node to its second
 abbrev pub span_of : Lists → Element → Span
 span_of m e = parts_of (way_of (from_of m e) (to_of m e))
+
+-- how many members an element of a shape has
+abbrev pub member_count : Shape → ℕ
+member_count Straight = 8
 
 -- its members, unless they leave their limits
 abbrev pub members_of : Lists → Element → Result (List Member) Wide

@@ -4,7 +4,8 @@ use Rattle.angle_table.specs.Pi.{pi_ends}
 use Rattle.flex_interval.specs.Fraction.{Fraction, Within}
 use Rattle.model_types.specs.Lists.{Lists}
 use Rattle.model_types.specs.declared.records.Element.{Element}
-use Rattle.pipe_element.specs.Straight.{IsLengthWithin, EnclosesStraight}
+use Rattle.member_pairs.specs.Lengths.{IsLengthWithin}
+use Rattle.pipe_element.specs.Straight.{EnclosesStraight}
 use Rattle.structure.specs.Elements.{members_of, span_of, tube_of}
 
 -- where an element has members, each of them holds its exact stiffness and shape vector, for every pi and every length

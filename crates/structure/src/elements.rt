@@ -4,29 +4,35 @@ ghost use Rattle.model_types.specs.Ranges.{NodeInForm, MaterialInForm};
 ghost use Rattle.model_types.specs.Rules.{Keeps};
 ghost use Rattle.model_types.specs.declared.records.Record.TheVariants as record_of;
 ghost use Rattle.section_data.specs.Tube.{IsTube};
-ghost use Rattle.structure.specs.Elements.{members_of, material_of, no_node, no_section};
+ghost use Rattle.member_pairs.specs.Pairs.{IsMemberOf};
+ghost use Rattle.structure.specs.Elements.{member_count, members_of, material_of, no_node, no_section};
 ghost use Rattle.structure.specs.Enclosure.{EnclosesElement};
 ghost use Rattle.structure.specs.Sound.{IsSound};
 ghost use Rattle.structure.specs.Structure.{element_members as all_of};
 
 use crate::fault::BuildFault;
 use flex_interval::Wide;
+use member_pairs::ElementMembers;
 use member_set::Member;
 use model_types::{Element, ElementId, Material, Model, Node, NodeId, Section, SectionId};
 use pipe_element::straight;
 use std::alloc::Global;
 
 /// The members of an element of a model: `Wide` where they leave their limits.
-pub fn element_members(model: &Model, element: &Element) -> Result<[Member; 8], Wide>
+pub fn element_members(model: &Model, element: &Element) -> Result<ElementMembers, Wide>
     requires { Keeps model.now (record_of.Element element.now) }
     ensures value { result ≡ members_of model.now element.now }
+    ensures count { IfOk result (λ members. length members ≡ member_count element.now.shape) }
+    ensures few { IfOk result (λ members. length members ≤ 8) }
+    ensures limits { IfOk result (λ members. All (IsMemberOf element.now) members) }
     ensures encloses { EnclosesElement model.now element.now }
 {
     let from = node(model, element.from);
     let to = node(model, element.to);
     let section = section(model, element.section);
     let material = material(model, section);
-    straight(element, from, to, section, material)
+    let members = straight(element, from, to, section, material)?;
+    Ok(ElementMembers::eight(members))
 }
 
 fn node(model: &Model, id: NodeId) -> &Node
@@ -68,7 +74,7 @@ pub fn all_element_members(alloc: Global, model: &Model) -> Result<Vec<Member>, 
     let elements = model.elements();
     for number in 0..elements.len() {
         match element_members(model, &elements[number]) {
-            Ok(more) => members.extend_from_slice(&more)?,
+            Ok(more) => members.extend_from_slice(more.as_slice())?,
             Err(Wide) => return Err(BuildFault::Wide(ElementId(number as u32))),
         }
     }

@@ -3,8 +3,8 @@ ghost use Rattle.lists.specs.Rising.{IsRising};
 ghost use Rattle.lists.specs.Lists.{contents, list_of};
 ghost use Rattle.structure.specs.Touching.{ListsTouching, ListsMember};
 
-use lists::list_number;
-use member_set::{Member, Sequence};
+use lists::{Sequence, empty_lists, list_number};
+use member_set::Member;
 use std::alloc::{AllocError, Global};
 
 /// For each of some nodes the numbers of the members that touch it, rising.
@@ -21,16 +21,6 @@ pub fn touching(
     let mut lists = empty_lists(alloc, nodes)?;
     list_members(&mut lists, members)?;
     sequences(alloc, lists)
-}
-
-fn empty_lists(alloc: Global, count: usize) -> Result<Vec<Vec<u32>>, AllocError>
-    ensures { IfOk result (λ lists. contents lists.items ≡ replicate count []) }
-{
-    let mut lists = Vec::with_capacity(alloc, count)?;
-    for _list in 0..count {
-        lists.push(Vec::new(alloc))?;
-    }
-    Ok(lists)
 }
 
 // Puts the number of each member into the lists of its nodes.

@@ -2,7 +2,8 @@
 use Rattle.std.proofs.Common.{◌≡◌, ℕ, ◌<◌, List, [], length, get_or, set, Contains, inl, inr, ◌∙◌, sym, ap, arith, ℤ, pos}
 use Rattle.std.proofs.lemmas.Bool.{cases_eq}
 use Rattle.std.proofs.lemmas.List.{get_or-set_same, get_or-set_other, get_or_past}
-use Rattle.lists.specs.Rising.{IsRising, place_of}
+use Rattle.lists.specs.Rising.{IsRising}
+use Rattle.lists.specs.Order.{place_of}
 use Rattle.lists.proofs.PlaceLemmas.{place_of-at, place_of-absent, at_place_of}
 use Rattle.sym_blocks.specs.Storage.{Block, block_beside, at_place}
 

@@ -1,5 +1,4 @@
 pub mod BlockLemmas
 pub mod StorageLemmas
 pub mod AddLemmas
-pub mod LinkLemmas
 pub mod NewLemmas

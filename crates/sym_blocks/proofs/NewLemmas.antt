@@ -6,9 +6,11 @@ use Rattle.std.proofs.lemmas.Bool.{cases_lt}
 use Rattle.std.proofs.lemmas.List.{get_or_past, get_or-map, length-map, length-replicate, get_or-replicate}
 use Rattle.std.proofs.lemmas.List.Elements.{All-contains}
 use Rattle.std.proofs.lemmas.List.FromFn.{get_or-map-range_with_len, length-map-range_with_len}
-use Rattle.lists.specs.Rising.{IsRising, place_of}
+use Rattle.lists.specs.Rising.{IsRising}
+use Rattle.lists.specs.Order.{place_of}
 use Rattle.sym_blocks.specs.Matrix.{entry, IsLinked}
-use Rattle.sym_blocks.specs.Storage.{Block, own_lists_of, zero_block, zero_blocks_of, block_beside, at_place, stored, matrix_of, IsStorage, IsWhole, LinksLists}
+use Rattle.sym_blocks.specs.Storage.{Block, own_lists_of, zero_block, zero_blocks_of, block_beside, at_place, stored, matrix_of, IsStorage, IsWhole}
+use Rattle.lists.specs.Lists.{LinksLists}
 use Rattle.sym_blocks.proofs.StorageLemmas.{entry-matrix_of}
 
 -- ---- each node with itself alone
@@ -93,7 +95,7 @@ members_linked nodes lists pairs links n k = (
 
 pub IsStorage-new : (nodes : ℕ) (lists : List (List ℕ)) (pairs : List (ℕ × ℕ)) → All (λ (p : ℕ × ℕ). (p.0 < nodes) × (p.1 < nodes)) pairs → LinksLists (own_lists_of nodes) lists pairs → IsStorage lists (zero_blocks_of lists)
 IsStorage-new nodes lists pairs within links =
-    let count : length lists ≡ nodes = links.nodes ∙ length-own_lists_of nodes in
+    let count : length lists ≡ nodes = links.count ∙ length-own_lists_of nodes in
     let linked = members_linked nodes lists pairs links in
     let zero = stored-zero lists in
     let pair_in = λ (n k : ℕ) (h : Contains {X = ℕ × ℕ} pairs (n, k)). All-contains (λ (p : ℕ × ℕ). (p.0 < nodes) × (p.1 < nodes)) pairs (n, k) within h in

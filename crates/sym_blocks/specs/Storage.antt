@@ -2,7 +2,8 @@
 use Rattle.std.specs.Prelude.{◌≡◌, ℕ, ◌*◌, ◌/◌, ◌%◌, ◌^◌, ◌<◌, List, [], ◌∷◌, length, map, replicate, slice_index_or, Contains, ◌↔◌, ◌⊎◌, ℤ, pos, ◌+ℤ◌}
 use Rattle.std.specs.List.{range_with_len}
 use Rattle.std.specs.Int.RustNames.{unsigned_abs}
-use Rattle.lists.specs.Rising.{IsRising, place_of}
+use Rattle.lists.specs.Rising.{IsRising}
+use Rattle.lists.specs.Order.{place_of}
 use Rattle.lists.specs.Lists.{list_of}
 use Rattle.sym_blocks.specs.Matrix.{Matrix}
 
@@ -13,12 +14,6 @@ Block = List (List ℤ)
 -- the list of each node, where each node is listed with itself alone
 abbrev pub own_lists_of : ℕ → List (List ℕ)
 own_lists_of nodes = map (λ n. n ∷ []) (range_with_len 0 nodes)
-
--- the nodes of each pair are put into each other's lists, which stay in order
-pub record LinksLists (old new : List (List ℕ)) (pairs : List (ℕ × ℕ)) : Type 0 where
-  pub nodes : length new ≡ length old
-  pub rising : (n : ℕ) → IsRising (list_of new n)
-  pub members : (n k : ℕ) → Contains (list_of new n) k ↔ (Contains (list_of old n) k ⊎ (Contains pairs (n, k) ⊎ Contains pairs (k, n)))
 
 abbrev pub zero_block : Block
 zero_block = replicate 6 (replicate 6 (pos 0))

@@ -1,10 +1,11 @@
 ghost use Rattle.lists.specs.Lists.{contents, list_of};
 ghost use Rattle.std.specs.Prelude.{◌≡◌, ◌∷◌, ◌↔◌, OnOk, ℕ, ◌+◌, ◌*◌, ◌/◌, ◌^◌, ◌<◌, IfOk, Contains, All, ℤ, pos, ◌+ℤ◌, length, slice_index_or, [], replicate};
 ghost use Rattle.lists.specs.Rising.{IsRising};
-ghost use Rattle.sym_blocks.specs.Storage.{own_lists_of, zero_block, zero_blocks_of, stored, LinksLists, IsLayout, IsStorage, AddsToStored, AddsBoth};
+ghost use Rattle.sym_blocks.specs.Storage.{own_lists_of, zero_block, zero_blocks_of, stored, IsLayout, IsStorage, AddsToStored, AddsBoth};
+ghost use Rattle.lists.specs.Lists.{LinksLists};
 ghost use Rattle.std.specs.Int.RustNames.{unsigned_abs};
 
-use lists::{find_rising, list_number};
+use lists::{find_rising, link_pairs};
 use std::alloc::{AllocError, Global};
 use std::marker::Model;
 
@@ -91,29 +92,6 @@ fn own_lists(alloc: Global, nodes: u32) -> Result<Vec<Vec<u32>>, AllocError>
         lists.push(vec![in alloc; node]?)?;
     }
     Ok(lists)
-}
-
-// Puts the nodes of each pair into each other's lists.
-fn link_pairs(lists: &mut [Vec<u32>], pairs: &[(u32, u32)]) -> Result<(), AllocError>
-    requires in_range { All (λ p. (p.0 < length lists.old) × (p.1 < length lists.old)) pairs.now }
-    requires rising { (n : ℕ) → IsRising (list_of (contents lists.old) n) }
-    ensures { OnOk result (LinksLists (contents lists.old) (contents lists.new) pairs.now) }
-{
-    for &(n, k) in pairs {
-        link(lists, n, k)?;
-    }
-    Ok(())
-}
-
-// Puts two nodes into each other's lists.
-fn link(lists: &mut [Vec<u32>], n: u32, k: u32) -> Result<(), AllocError>
-    requires n_in_range { n < length lists.old }
-    requires k_in_range { k < length lists.old }
-    requires rising { (a : ℕ) → IsRising (list_of (contents lists.old) a) }
-    ensures { OnOk result (LinksLists (contents lists.old) (contents lists.new) ((n, k) ∷ [])) }
-{
-    list_number(lists, n, k)?;
-    list_number(lists, k, n)
 }
 
 // A block of zeros beside each node of each list.

@@ -1,7 +1,8 @@
 use Rattle.std.proofs.Common.{◌≡◌, ◌<◌, ℕ, pos, length}
 use Rattle.factor_data.specs.Columns.{column_rows, column_values, column_entry}
-use Rattle.certificate.specs.QuadraticForm.{absolute}
-use Rattle.certificate.specs.RowSums.{value_at, size_at, column_size}
+use Rattle.int_laws.specs.Matrices.{absolute}
+use Rattle.certificate.specs.RowSums.{column_size}
+use Rattle.flex_num.specs.Guarded.{value_at, size_at}
 use Rattle.certificate.specs.RowLists.{row_part}
 use Rattle.certificate.proofs.check.add_row.Given as goal
 

@@ -4,7 +4,7 @@ use Rattle.std.proofs.lemmas.List.{get_or_default}
 use mir.Syntax.{w64}
 use mir.Val.{SFits}
 use Rattle.certificate.specs.declared.row_lists.RowEntry.{RowEntry}
-use Rattle.certificate.specs.QuadraticForm.{absolute}
+use Rattle.int_laws.specs.Matrices.{absolute}
 use Rattle.certificate.proofs.RowListLemmas.{lists-step}
 use Rattle.certificate.proofs.row_lists.list_column.Goals as goal
 

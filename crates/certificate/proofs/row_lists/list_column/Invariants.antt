@@ -1,7 +1,8 @@
 use Rattle.std.proofs.Common.{◌≡◌, ◌<◌, ℕ, ◌+ℤ◌, ◌*ℤ◌, length}
-use Rattle.certificate.specs.QuadraticForm.{Vector, absolute}
+use Rattle.int_laws.specs.Matrices.{Vector, absolute}
 use Rattle.factor_data.specs.Columns.{column_part}
-use Rattle.certificate.specs.RowLists.{row_product, list_of}
+use Rattle.certificate.specs.RowLists.{row_product}
+use Rattle.lists.specs.Lists.{list_of}
 use Rattle.certificate.proofs.row_lists.list_column.Given as goal
 
 abbrev pub invariant-loop-place : goal.invariant-loop-place

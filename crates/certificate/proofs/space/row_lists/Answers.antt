@@ -4,9 +4,10 @@ use Rattle.std.proofs.lemmas.List.{get_or_default, take_at}
 use Rattle.certificate.specs.declared.row_lists.RowEntry.{RowEntry}
 use Rattle.factor_data.specs.Columns.{column_rows, column_values, column_entry}
 use Rattle.int_laws.specs.Sums.{sum_below}
-use Rattle.certificate.specs.QuadraticForm.{Vector, absolute}
+use Rattle.int_laws.specs.Matrices.{Vector, absolute}
 use Rattle.certificate.specs.RowSums.{column_size}
-use Rattle.certificate.specs.RowLists.{ListsColumn, row_product, list_of}
+use Rattle.certificate.specs.RowLists.{ListsColumn, row_product}
+use Rattle.lists.specs.Lists.{list_of}
 use Rattle.certificate.proofs.space.row_lists.Goals as goal
 
 pub list_column-requires-clause-in_range : goal.list_column-requires-clause-in_range

@@ -1,9 +1,10 @@
 use Rattle.std.proofs.Common.{◌≡◌, ◌<◌, ℕ, ◌*ℤ◌, length}
 use Rattle.int_laws.specs.Sums.{sum_below}
 use Rattle.factor_data.specs.Columns.{column_rows, column_values, column_entry}
-use Rattle.certificate.specs.QuadraticForm.{Vector, absolute}
+use Rattle.int_laws.specs.Matrices.{Vector, absolute}
 use Rattle.certificate.specs.RowSums.{column_size}
-use Rattle.certificate.specs.RowLists.{list_of, row_product}
+use Rattle.certificate.specs.RowLists.{row_product}
+use Rattle.lists.specs.Lists.{list_of}
 use Rattle.certificate.proofs.space.row_lists.Given as goal
 
 abbrev pub invariant-loop-column : goal.invariant-loop-column

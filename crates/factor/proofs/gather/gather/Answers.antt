@@ -1,6 +1,6 @@
 use Rattle.std.proofs.Common.{◌≡◌, ℕ, ◌+◌, ◌*◌, ◌∙◌, ap, sym, subst, arith, length, get_or, List, ℤ, pos, neg_ℤ}
 use Rattle.std.proofs.lemmas.List.Elements.{Contains-get_or}
-use Rattle.lists.specs.Rising.{place_of}
+use Rattle.lists.specs.Order.{place_of}
 use Rattle.lists.proofs.PlaceLemmas.{place_of-at}
 use Rattle.factor.specs.Panel.{kept_for}
 use Rattle.factor.specs.Gather.{block_product}

@@ -68,7 +68,7 @@ returns-then-not-add_own c =
     let Q : List ℤ → Type 0 = λ xs. HasWideSum xs c.deref-4.result.now in
     let R : List ℤ → Type 0 = λ xs. HasWideSum c.in_ok-sums.sums.items xs in
     let wide = subst R c.deref-4.ensures.value (subst Q c.deref_mut.ensures.value c.if-not-add_own.ensures) in (
-      refl,
+      sym c.number_at.ensures,
       record {
         node = c.requires.node_in;
         nodes_before = λ d lt. (c.requires.panels.known d lt).passes;

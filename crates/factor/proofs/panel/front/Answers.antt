@@ -1,7 +1,7 @@
 use Rattle.std.proofs.Common.{ℕ, ◌<◌, ◌≤◌, ◌∙◌, ap, sym, subst, arith, List, length, get_or, take}
 use Rattle.std.proofs.lemmas.List.{take_more, take_all}
 use Rattle.std.proofs.lemmas.List.Elements.{All-contains}
-use Rattle.factor.specs.Front.{InsertsLater}
+use Rattle.lists.specs.Rising.{InsertsLater}
 use Rattle.factor.specs.State.{IsFront, nodes_at}
 use Rattle.factor.specs.declared.panel.Panel.{Panel}
 use Rattle.factor.proofs.UserLemmas.{nodes_read, user_at}

@@ -3,7 +3,7 @@ use Rattle.std.specs.Int.RustNames.{unsigned_abs}
 use Rattle.std.specs.Vec.{with_items}
 use Rattle.std.proofs.lemmas.List.{with_items_is}
 use Rattle.std.proofs.lemmas.List.Elements.{Contains-get_or, All-contains}
-use Rattle.factor_data.proofs.OrderLemmas.{length-rising}
+use Rattle.lists.proofs.PlaceLemmas.{length-rising}
 use Rattle.cholesky_laws.proofs.BoundLemmas.{scaled-small}
 use Rattle.sym_blocks.specs.Matrix.{entry}
 use Rattle.factor.specs.Panel.{kept_for, AllSmall}

@@ -59,12 +59,12 @@ pub of_parts-requires : goal.of_parts-requires
 of_parts-requires c =
     let end : c.loop-column.column ≡ 6 * length c.args.order.now = omega (arith, c.requires.panels.count) in
     let P : ℕ → Type 0 = λ n. AreColumnsTo c.args.panels.now n (contents c.loop-column.rows.items) (contents c.loop-column.values.items) in
-    rw c.in_ok-from_slice.ensures.items
-    (columns_fit c.args.order.now c.args.panels.now (contents c.loop-column.rows.items) (contents c.loop-column.values.items) c.requires.order c.requires.panels (subst P end c.loop-column.invariant))
+    rw (c.in_ok-from_slice.ensures.items, c.numbers.ensures.value)
+    (columns_fit c.args.order.now c.args.panels.now (contents c.loop-column.rows.items) (contents c.loop-column.values.items) c.numbers.ensures.order c.requires.panels (subst P end c.loop-column.invariant))
 
 pub returns : goal.returns
 returns c =
     let end : c.loop-column.column ≡ 6 * length c.args.order.now = omega (arith, c.requires.panels.count) in
     let P : ℕ → Type 0 = λ n. AreColumnsTo c.args.panels.now n (contents c.loop-column.rows.items) (contents c.loop-column.values.items) in
-    rw (c.of_parts.ensures, c.in_ok-from_slice.ensures.items)
-    (columns_hold c.args.order.now c.args.panels.now (contents c.loop-column.rows.items) (contents c.loop-column.values.items) c.requires.order c.requires.panels (subst P end c.loop-column.invariant))
+    rw (c.of_parts.ensures, c.in_ok-from_slice.ensures.items, c.numbers.ensures.value)
+    (columns_hold c.args.order.now c.args.panels.now (contents c.loop-column.rows.items) (contents c.loop-column.values.items) c.numbers.ensures.order c.requires.panels (subst P end c.loop-column.invariant))

@@ -2,7 +2,7 @@ use Rattle.std.proofs.Common.{rules, ap, sym, subst, ◌∙◌, ◌≡◌, ◌<�
 use mir.Syntax.{w64}
 use mir.Val.{SFits}
 use Rattle.factor_data.specs.Columns.{column_rows, column_values}
-use Rattle.factor_data.proofs.OrderLemmas.{spread-rising}
+use Rattle.lists.proofs.PlaceLemmas.{spread-rising}
 use Rattle.factor_data.proofs.ColumnLemmas.{part-listed, part-missing}
 use Rattle.factor_data.proofs.Factor.get.Goals as goal
 

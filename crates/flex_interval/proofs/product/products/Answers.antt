@@ -1,9 +1,9 @@
 use Rattle.std.proofs.Common.{rules, ◌≡◌, ap, FitsSigned, to_z, of_z, to_z-of_z}
+use Rattle.std.proofs.lemmas.Result.{err_from_is_err_and}
 use Rattle.std.specs.Int.{w128, int_min, int_max}
 use Rattle.flex_interval.specs.Ends.{Ends, IsInterval}
-use Rattle.flex_interval.specs.Operations.{products_of}
 use Rattle.flex_interval.proofs.EndsLemmas.{small_fits, hull_is_interval}
-use Rattle.flex_interval.proofs.ProductLemmas.{products_within}
+use Rattle.flex_interval.proofs.ProductLemmas.{products_within, products-by_ends}
 use Rattle.flex_interval.proofs.product.products.Goals as goal
 
 lo_is : (c : goal.After-max) → to_z w128 (of_z w128 c.min.result) ≡ int_min c.in_ok-lower.lower.lo c.in_ok-upper.upper.lo
@@ -26,14 +26,29 @@ invariant_of-result c =
     let upper : IsInterval c.in_ok-upper.upper = rw (← c.upper.view_is) c.upper.invariant in
     rw (lo_is c, hi_is c) (hull_is_interval c.in_ok-lower.lower c.in_ok-upper.upper lower upper)
 
+pub returns-in_err-lower-clause-value : goal.returns-in_err-lower-clause-value
+returns-in_err-lower-clause-value c =
+    let b_lo : FitsSigned w128 c.b.inside.lo = small_fits c.b.invariant.lo_small in
+    let lower = rw (to_z-of_z b_lo) at c.in_err-lower.ensures.value in
+    let p = err_from_is_err_and c.from_residual.result c.from_residual.ensures.1 in
+    rw (p.1, p.2, products-by_ends c.args.a c.args.b, ← c.b.view_is, ← lower)
+
+pub returns-in_err-upper-clause-value : goal.returns-in_err-upper-clause-value
+returns-in_err-upper-clause-value c =
+    let b_lo : FitsSigned w128 c.b.inside.lo = small_fits c.b.invariant.lo_small in
+    let b_hi : FitsSigned w128 c.b.inside.hi = small_fits c.b.invariant.hi_small in
+    let lower = rw (to_z-of_z b_lo) at c.in_ok-lower.ensures.value in
+    let upper = rw (to_z-of_z b_hi) at c.in_err-upper.ensures.value in
+    let p = err_from_is_err_and c.from_residual-in_err-upper.result c.from_residual-in_err-upper.ensures.1 in
+    rw (p.1, p.2, products-by_ends c.args.a c.args.b, ← c.b.view_is, ← lower, ← upper)
+
 pub returns-clause-value : goal.returns-clause-value
-unfolding products_of
 returns-clause-value c =
     let b_lo : FitsSigned w128 c.b.inside.lo = small_fits c.b.invariant.lo_small in
     let b_hi : FitsSigned w128 c.b.inside.hi = small_fits c.b.invariant.hi_small in
     let lower = rw (to_z-of_z b_lo) at c.in_ok-lower.ensures.value in
     let upper = rw (to_z-of_z b_hi) at c.in_ok-upper.ensures.value in
-    rw (lo_is c, hi_is c, ← c.b.view_is, ← lower, ← upper)
+    rw (lo_is c, hi_is c, products-by_ends c.args.a c.args.b, ← c.b.view_is, ← lower, ← upper)
 
 pub returns-clause-within : goal.returns-clause-within
 returns-clause-within c = λ x y in_a in_b.

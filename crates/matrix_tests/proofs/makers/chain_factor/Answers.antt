@@ -3,7 +3,7 @@ use Rattle.std.proofs.lemmas.Bool.{cases_lt}
 use Rattle.std.proofs.lemmas.Grind.{common_steps}
 use Rattle.std.proofs.lemmas.List.{get_or_past, get_or_default}
 use Rattle.lists.specs.Rising.{IsRising}
-use Rattle.factor_data.specs.Order.{IsOrder}
+use Rattle.lists.specs.Order.{IsOrder}
 use Rattle.factor_data.specs.Columns.{columns_of, IsFactor, contents}
 use Rattle.matrix_tests.proofs.makers.chain_factor.Goals as goal
 

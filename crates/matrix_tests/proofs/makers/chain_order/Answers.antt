@@ -1,6 +1,6 @@
 use Rattle.std.proofs.Common.{arith, ◌≡◌, ◌<◌, ◌+◌, ◌∙◌, ℕ, List, length, slice_index}
 use Rattle.std.proofs.lemmas.List.{get_or_default}
-use Rattle.factor_data.specs.Order.{IsOrder}
+use Rattle.lists.specs.Order.{IsOrder}
 use Rattle.matrix_tests.proofs.makers.chain_order.Goals as goal
 
 own_order : (order : List ℕ) (nodes : ℕ) → length order ≡ nodes → ((k : ℕ) → k < nodes → slice_index order k ≡ 0 + k) → IsOrder order

@@ -4,7 +4,8 @@ use Rattle.flex_interval.specs.Fraction.{Within}
 use Rattle.flex_interval.specs.Operations.{sub_of}
 use Rattle.member_set.specs.declared.members.Law.{Law}
 use Rattle.member_set.specs.Members.{load_of, force_of, members_at}
-use Rattle.member_set.specs.Realisation.{Vector, Realisation, IsRealisation, HoldForces, force_in, exact_load, pull_fraction}
+use Rattle.member_set.specs.Realisation.{Realisation, IsRealisation, HoldForces, force_in, exact_load, pull_fraction}
+use Rattle.int_laws.specs.Matrices.{Vector}
 use Rattle.member_set.specs.Interval.{in_turn, residual_term}
 use Rattle.member_set.proofs.residuals.residual_from.Given as goal
 

@@ -59,7 +59,7 @@ returns-clause-value c =
 
 pub returns-clause-within : goal.returns-clause-within
 returns-clause-within c = λ t within. record {
-  x = rw (x_is c) at (c.in_ok-x.ensures.within t within);
-  y = rw (y_is c) at (c.in_ok-y.ensures.within t within);
-  z = rw (z_is c) at (c.in_ok-z.ensures.within t within);
+  x = λ _. rw (x_is c) at (c.in_ok-x.ensures.within t within);
+  y = λ _. rw (y_is c) at (c.in_ok-y.ensures.within t within);
+  z = λ _. rw (z_is c) at (c.in_ok-z.ensures.within t within);
 }

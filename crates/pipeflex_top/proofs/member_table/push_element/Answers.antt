@@ -1,10 +1,16 @@
-use Rattle.std.proofs.Common.{◌≡◌, ◌++◌, Ok, subst, sym, ◌∙◌}
+use Rattle.std.proofs.Common.{◌≡◌, ◌≤◌, List, ◌++◌, length, Ok, subst, sym, ◌∙◌, arith}
 use Rattle.std.specs.List.{flat_map}
 use Rattle.text_words.specs.Fields.{line}
-use Rattle.structure.specs.Elements.{members_of}
+use Rattle.member_set.specs.declared.members.Member.{Member}
+use Rattle.model_types.specs.declared.records.Shape.{Shape}
+use Rattle.model_types.specs.declared.records.Shape.TheVariants.{Straight}
+use Rattle.structure.specs.Elements.{members_of, member_count}
 use Rattle.pipeflex_top.specs.MemberTable.{element_lines}
 use Rattle.pipeflex_top.proofs.TableLemmas.{element_written}
 use Rattle.pipeflex_top.proofs.member_table.push_element.Goals as goal
+
+pub push_kappas-requires : goal.push_kappas-requires
+push_kappas-requires c = rw (c.as_slice.ensures) c.in-Ok.ensures.few
 
 pub returns-in_ok-push_kappas-in-Ok-clause-bytes : goal.returns-in_ok-push_kappas-in-Ok-clause-bytes
 returns-in_ok-push_kappas-in-Ok-clause-bytes c =
@@ -12,5 +18,6 @@ returns-in_ok-push_kappas-in-Ok-clause-bytes c =
     let new = c.push_kappas.new.out.items in
     let made = members_of c.args.model.now c.args.element.now in
     let is : made ≡ Ok c.in-Ok.members = sym c.element_members.ensures.value ∙ c.in-Ok.is in
+    let kappas = rw c.as_slice.ensures at c.in_ok-push_kappas-in-Ok.ensures in
     subst (λ name. new ≡ old ++ flat_map line (element_lines name made)) c.bytes-name.ensures.bytes
-    (element_written old c.push_line.new.out.items new c.bytes-name.result.now made c.in-Ok.members is c.in_ok-push_line-in-Ok.ensures c.in_ok-push_kappas-in-Ok.ensures)
+    (element_written old c.push_line.new.out.items new c.bytes-name.result.now made c.in-Ok.members is c.in_ok-push_line-in-Ok.ensures kappas)

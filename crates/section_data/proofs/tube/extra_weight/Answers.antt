@@ -3,7 +3,7 @@ use Rattle.std.proofs.lemmas.Int.{ints}
 use Rattle.std.specs.Int.{w128, w64}
 use Rattle.int_laws.proofs.Sums.{int_sums}
 use Rattle.flex_interval.specs.Fraction.{whole}
-use Rattle.section_data.proofs.RatioBounds.{product_most}
+use Rattle.int_laws.proofs.Products.{product_most}
 use Rattle.section_data.proofs.tube.extra_weight.Goals as goal
 
 is : (c : goal.After-point) → to_z w128 (of_z w128 c.from.result) ≡ c.args.s.now.extra

@@ -2,7 +2,7 @@ use Rattle.std.proofs.Common.{rules, pos, ◌^◌, arith, FitsSigned, to_z-of_z}
 use Rattle.std.proofs.lemmas.Int.{ints}
 use Rattle.std.specs.Int.{w128}
 use Rattle.int_laws.proofs.Sums.{int_sums}
-use Rattle.section_data.proofs.RatioBounds.{product_most}
+use Rattle.int_laws.proofs.Products.{product_most}
 use Rattle.section_data.proofs.tube.modulus.Goals as goal
 
 pub share-requires-clause-small : goal.share-requires-clause-small

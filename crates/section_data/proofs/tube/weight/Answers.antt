@@ -1,7 +1,7 @@
 use Rattle.std.proofs.Common.{rules, ◌≤ℤ◌, arith}
 use Rattle.std.proofs.lemmas.Int.{ints}
 use Rattle.section_data.specs.Tube.{exact_weight_of}
-use Rattle.section_data.proofs.RatioBounds.{small_sum}
+use Rattle.section_data.proofs.SmallSums.{small_sum}
 use Rattle.section_data.proofs.tube.weight.Goals as goal
 
 pub unwrap-requires : goal.unwrap-requires

@@ -34,6 +34,6 @@ loop-row-preserved c =
       | inl less ↦ subst (λ (m : ℤ). IsMiddle (residual k) m) (sym (get_or-set_other r row k c.middle.result (pos 0) (omega arith))) (c.loop-row.invariant k less)
       | inr same ↦
           let here : IsMiddle (residual row) (at (slice_set r row c.middle.result) row) =
-          record { interval = c.in_ok-residual_from.field-0; found = sym at_row; middle = get_or-set_same r row c.middle.result (pos 0) inside ∙ c.middle.ensures } in
+          record { interval = c.in_ok-residual_from.field-0; found = sym at_row; middle = get_or-set_same r row c.middle.result (pos 0) inside ∙ c.middle.ensures.value } in
           rw same here
     ])

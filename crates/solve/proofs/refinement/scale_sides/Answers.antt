@@ -2,9 +2,9 @@ use Rattle.std.proofs.Common.{rules, arith, ◌≡◌, ◌<◌, ◌⊎◌, inl, 
 use Rattle.std.specs.Int.{w128}
 use Rattle.factor_data.specs.Order.{freedom_at}
 use Rattle.factor_data.proofs.OrderLemmas.{row-below}
-use Rattle.solve.specs.declared.numerators.Numerator.{Numerator}
-use Rattle.solve.specs.Substitution.{absolute}
-use Rattle.solve.specs.Numerators.{zero_numerator}
+use Rattle.flex_num.specs.declared.guarded.GuardedSum.{GuardedSum}
+use Rattle.int_laws.specs.Matrices.{absolute}
+use Rattle.flex_num.specs.Guarded.{zero_sum}
 use Rattle.solve.proofs.Scaling.{room-scaled}
 use Rattle.solve.proofs.refinement.scale_sides.Goals as goal
 
@@ -32,21 +32,21 @@ loop-j-preserved c =
     let scale_fits : FitsSigned w128 c.power_of_two-scale.result = search rules in
     let value = rw (to_z-of_z number_fits, to_z-of_z scale_fits, c.row_at.ensures, c.power_of_two-scale.ensures) at c.scaled.ensures.value in
     let size = rw (to_z-of_z number_fits, to_z-of_z scale_fits, c.row_at.ensures, c.power_of_two-scale.ensures) at c.scaled.ensures.size in
-    let here = get_or-set_same left j n zero_numerator inside in
+    let here = get_or-set_same left j n zero_sum inside in
     record {
       sides = λ k below.
           let side : (k < j) ⊎ (k ≡ j) = search arith in
           elim side [
-            | inl less ↦ ap (λ (m : Numerator). m.value) (get_or-set_other left j k n zero_numerator (omega arith)) ∙ c.loop-j.invariant.sides k less
-            | inr same ↦ rw same (ap (λ (m : Numerator). m.value) here ∙ value)
+            | inl less ↦ ap (λ (m : GuardedSum). m.value) (get_or-set_other left j k n zero_sum (omega arith)) ∙ c.loop-j.invariant.sides k less
+            | inr same ↦ rw same (ap (λ (m : GuardedSum). m.value) here ∙ value)
           ];
       whole = λ k below.
           let side : (k < j) ⊎ (k ≡ j) = search arith in
           elim side [
             | inl less ↦
-                let read = get_or-set_other left j k n zero_numerator (omega arith) in
-                ap (λ (m : Numerator). pos m.size) read ∙ c.loop-j.invariant.whole k less ∙ ap (λ (m : Numerator). absolute m.value) (sym read)
-            | inr same ↦ rw same (ap (λ (m : Numerator). pos m.size) here ∙ ap pos size ∙ ap absolute (sym value) ∙ ap (λ (m : Numerator). absolute m.value) (sym here))
+                let read = get_or-set_other left j k n zero_sum (omega arith) in
+                ap (λ (m : GuardedSum). pos m.size) read ∙ c.loop-j.invariant.whole k less ∙ ap (λ (m : GuardedSum). absolute m.value) (sym read)
+            | inr same ↦ rw same (ap (λ (m : GuardedSum). pos m.size) here ∙ ap pos size ∙ ap absolute (sym value) ∙ ap (λ (m : GuardedSum). absolute m.value) (sym here))
           ];
     }
 

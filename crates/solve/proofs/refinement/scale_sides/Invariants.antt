@@ -1,6 +1,6 @@
-use Rattle.std.proofs.Common.{◌≡◌, ℕ, ◌<◌}
-use Rattle.solve.specs.Substitution.{absolute}
-use Rattle.solve.specs.Numerators.{value_at, size_at}
+use Rattle.std.proofs.Common.{pos, ◌≡◌, ℕ, ◌<◌}
+use Rattle.int_laws.specs.Matrices.{absolute}
+use Rattle.flex_num.specs.Guarded.{value_at, size_at}
 use Rattle.solve.specs.Refinement.{forward_side}
 use Rattle.solve.proofs.refinement.scale_sides.Given as goal
 
@@ -8,5 +8,5 @@ abbrev pub invariant-loop-j : goal.invariant-loop-j
 invariant-loop-j l =
     record {
       sides : (j : ℕ) → j < l.j → value_at l.left j ≡ forward_side l.order l.r l.digits j;
-      whole : (j : ℕ) → j < l.j → size_at l.left j ≡ absolute (value_at l.left j);
+      whole : (j : ℕ) → j < l.j → pos (size_at l.left j) ≡ absolute (value_at l.left j);
     }

@@ -2,7 +2,7 @@ use Rattle.std.proofs.Common.{◌≡◌, ℕ, ◌<◌, length, subst}
 use Rattle.std.proofs.lemmas.Result.{err_from_is_err_and, on_ok_weaker, on_err_weaker}
 use Rattle.member_set.specs.Members.{row_count}
 use Rattle.factor_data.specs.Columns.{entry}
-use Rattle.solve.specs.Numerators.{value_at}
+use Rattle.flex_num.specs.Guarded.{value_at}
 use Rattle.solve.specs.Substitution.{IsBackward, BackwardBreaks}
 use Rattle.solve.specs.Refinement.{forward_side, backward_side, no_room, forward_broad, backward_broad, too_far}
 use Rattle.solve.proofs.OnBoth.{on_ok_both}

@@ -2,10 +2,11 @@ use Rattle.std.proofs.Common.{◌≡◌, List, ℕ, ◌+◌, ◌-◌, ◌^◌, l
 use Rattle.std.proofs.lemmas.Result.{err_from_is_err_and}
 use Rattle.std.proofs.lemmas.List.{get_or_default}
 use Rattle.std.specs.Int.{w64, w128}
-use Rattle.factor_data.specs.Order.{IsSpread}
+use Rattle.lists.specs.Order.{IsSpread}
 use Rattle.std.proofs.Math.ListN.{length-set}
 use Rattle.factor_data.specs.Columns.{entry, column_rows, column_values}
-use Rattle.solve.specs.Substitution.{at, absolute, IsBackwardFrom}
+use Rattle.solve.specs.Substitution.{at, IsBackwardFrom}
+use Rattle.int_laws.specs.Matrices.{absolute}
 use Rattle.solve.specs.Numerators.{gathered_size}
 use Rattle.solve.proofs.Entries.{column-spread, gathered-whole, gathered_size-whole}
 use Rattle.solve.proofs.Solving.{at-set_other, backward-step}
@@ -55,7 +56,7 @@ loop-j-preserved c =
     let j = c.loop-j.j - 1 in
     let spread = column-spread c.args.f.now n j c.column.ensures.kept c.requires.factor in
     let scale_fits : FitsSigned w128 c.power_of_two-scale.result = search rules in
-    let fits : FitsSigned w128 c.over.result = search rules in
+    let fits : FitsSigned w128 c.quotient.result = search rules in
     let diagonal_fits : FitsSigned w64 c.get.result = search rules in
     let untouched = c.loop-j.invariant.untouched j (omega arith) in
     let scale_is : to_z w128 (of_z w128 c.power_of_two-scale.result) ≡ pos (2 ^ c.args.digits) = to_z-of_z scale_fits ∙ c.power_of_two-scale.ensures in
@@ -76,14 +77,14 @@ loop-j-preserved c =
       c.column.ensures.values,
       gathered_size-whole (column_rows c.args.f.now j) (column_values c.args.f.now j) c.loop-j.x n j spread,
     ) at size_here in
-    let is = rw (to_z-of_z diagonal_fits, c.get.ensures) at c.over.ensures in
+    let is = rw (to_z-of_z diagonal_fits, c.get.ensures) at c.quotient.ensures in
     let next : c.loop-j.j ≡ j + 1 = omega arith in
     let after = subst (λ (m : ℕ). IsBackwardFrom n (entry c.args.f.now) (λ k. at c.args.x.now k *ℤ pos (2 ^ c.args.digits)) c.loop-j.x m) next c.loop-j.invariant.solved in
     rw (to_z-of_z fits)
     (record {
-      one_each = length-set c.loop-j.x j c.over.result ∙ c.loop-j.invariant.one_each;
+      one_each = length-set c.loop-j.x j c.quotient.result ∙ c.loop-j.invariant.one_each;
       not_past = omega (arith, c.loop-j.invariant.not_past);
-      untouched = λ k below. at-set_other c.loop-j.x j k c.over.result (λ e. absurd (omega arith)) ∙ c.loop-j.invariant.untouched k (omega arith);
-      solved = backward-step n (entry c.args.f.now) (λ k. at c.args.x.now k *ℤ pos (2 ^ c.args.digits)) c.loop-j.x j c.over.result c.in_ok-numerator.numerator.value c.in_ok-numerator.numerator.size
+      untouched = λ k below. at-set_other c.loop-j.x j k c.quotient.result (λ e. absurd (omega arith)) ∙ c.loop-j.invariant.untouched k (omega arith);
+      solved = backward-step n (entry c.args.f.now) (λ k. at c.args.x.now k *ℤ pos (2 ^ c.args.digits)) c.loop-j.x j c.quotient.result c.in_ok-numerator.numerator.value c.in_ok-numerator.numerator.size
           (omega (arith, c.loop-j.invariant.not_past)) c.loop-j.invariant.one_each after c.in_ok-numerator.numerator.narrow value size is;
     })

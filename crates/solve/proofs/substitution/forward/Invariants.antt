@@ -1,6 +1,6 @@
 use Rattle.std.proofs.Common.{length}
 use Rattle.factor_data.specs.Columns.{entry}
-use Rattle.solve.specs.Numerators.{value_at}
+use Rattle.flex_num.specs.Guarded.{value_at}
 use Rattle.solve.proofs.Solving.{IsForwardState}
 use Rattle.solve.proofs.substitution.forward.Given as goal
 

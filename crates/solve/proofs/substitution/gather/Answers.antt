@@ -2,7 +2,8 @@ use Rattle.std.proofs.Common.{◌≡◌, ℕ, ◌^◌, get_or, length, subst, ar
 use Rattle.std.proofs.lemmas.Result.{err_from_is_err_and}
 use Rattle.std.proofs.lemmas.Int.{ints}
 use Rattle.std.specs.Int.{w64, w128}
-use Rattle.solve.specs.Substitution.{at, absolute}
+use Rattle.solve.specs.Substitution.{at}
+use Rattle.int_laws.specs.Matrices.{absolute}
 use Rattle.int_laws.proofs.Sums.{int_sums}
 use Rattle.solve.specs.Numerators.{gathered, gathered_size}
 use Rattle.solve.proofs.Columns.{gathered-step, gathered_size-step, gathered-broad, gathered-broad_start}

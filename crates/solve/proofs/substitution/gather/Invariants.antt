@@ -1,6 +1,7 @@
 use Rattle.std.proofs.Common.{◌≡◌, ◌-ℤ◌, ◌+ℤ◌, ◌*ℤ◌, pos}
 use Rattle.solve.specs.Numerators.{gathered, gathered_size}
-use Rattle.solve.specs.Substitution.{at, absolute}
+use Rattle.solve.specs.Substitution.{at}
+use Rattle.int_laws.specs.Matrices.{absolute}
 use Rattle.solve.proofs.substitution.gather.Given as goal
 
 abbrev pub invariant-loop-v : goal.invariant-loop-v

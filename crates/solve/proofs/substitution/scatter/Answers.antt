@@ -3,7 +3,8 @@ use Rattle.std.proofs.lemmas.Result.{err_from_is_err_and}
 use Rattle.std.proofs.lemmas.List.{get_or_read_under}
 use Rattle.std.specs.Int.{w64, w128}
 use Rattle.int_laws.proofs.Sums.{int_sums}
-use Rattle.solve.specs.Numerators.{zero_numerator, TakesColumn}
+use Rattle.solve.specs.Numerators.{TakesColumn}
+use Rattle.flex_num.specs.Guarded.{zero_sum}
 use Rattle.solve.proofs.ColumnsTaken.{scatter-step, scatter-beyond}
 use Rattle.solve.proofs.substitution.scatter.Goals as goal
 
@@ -12,7 +13,7 @@ loop-v-preserved c =
     let row = get_or c.args.rows.now c.loop-v.v 0 in
     let in_range : row < length c.args.left.now = c.requires.in_range c.loop-v.v 0 c.loop-v-test.true in
     let inside : row < length c.loop-v.left = omega (arith, c.loop-v.invariant.length_kept, in_range) in
-    let is = get_or_read_under c.loop-v.left row _ c.index-left-row.result zero_numerator c.index-left-row.is inside refl in
+    let is = get_or_read_under c.loop-v.left row _ c.index-left-row.result zero_sum c.index-left-row.is inside refl in
     let entry_fits : FitsSigned w64 (get_or c.args.values.now c.loop-v.v (pos 0)) = search rules in
     let value = rw (to_z-of_z entry_fits, is) at c.in_ok-left.ensures.value in
     let size = rw (to_z-of_z entry_fits, is) at c.in_ok-left.ensures.size in
@@ -25,7 +26,7 @@ returns-in_err-left c =
     let row = get_or c.args.rows.now c.loop-v.v 0 in
     let in_range : row < length c.args.left.now = c.requires.in_range c.loop-v.v 0 c.loop-v-test.true in
     let inside : row < length c.loop-v.left = omega (arith, c.loop-v.invariant.length_kept, in_range) in
-    let is = get_or_read_under c.loop-v.left row _ c.index-left-row.result zero_numerator c.index-left-row.is inside refl in
+    let is = get_or_read_under c.loop-v.left row _ c.index-left-row.result zero_sum c.index-left-row.is inside refl in
     let entry_fits : FitsSigned w64 (get_or c.args.values.now c.loop-v.v (pos 0)) = search rules in
     let before : TakesColumn c.args.left.now c.loop-v.left c.args.rows.now c.args.values.now c.args.j c.args.unknown c.loop-v.v =
     rw (← to_z-of_z c.ranges.unknown) c.loop-v.invariant in

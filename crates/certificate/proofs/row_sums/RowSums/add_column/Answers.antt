@@ -2,8 +2,9 @@ use Rattle.std.proofs.Common.{rules, arith, ap, refl, subst, ◌∙◌, ◌≡�
 use Rattle.int_laws.proofs.Sums.{int_sums}
 use mir.Syntax.{w64, w128}
 use mir.Val.{SFits}
-use Rattle.certificate.specs.QuadraticForm.{absolute}
-use Rattle.certificate.specs.RowSums.{size_at, AddsProduct}
+use Rattle.int_laws.specs.Matrices.{absolute}
+use Rattle.certificate.specs.RowSums.{AddsProduct}
+use Rattle.flex_num.specs.Guarded.{size_at}
 use Rattle.factor_data.specs.Columns.{column_part}
 use Rattle.certificate.proofs.ColumnLemmas.{column-value, column-sizes, column-beyond}
 use Rattle.certificate.proofs.row_sums.RowSums.add_column.Goals as goal

@@ -1,6 +1,6 @@
 use Rattle.std.proofs.Common.{◌≡◌, ◌<◌, ℕ, pos, ◌+ℤ◌, ◌*ℤ◌, length}
-use Rattle.certificate.specs.QuadraticForm.{absolute}
-use Rattle.certificate.specs.RowSums.{value_at, size_at}
+use Rattle.int_laws.specs.Matrices.{absolute}
+use Rattle.flex_num.specs.Guarded.{value_at, size_at}
 use Rattle.factor_data.specs.Columns.{column_part}
 use Rattle.certificate.proofs.row_sums.RowSums.add_column.Given as goal
 

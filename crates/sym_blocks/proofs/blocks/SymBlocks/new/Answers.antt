@@ -3,7 +3,8 @@ use Rattle.lists.specs.Lists.{contents}
 use Rattle.std.proofs.Common.{◌≡◌, ◌∙◌, ap, sym, arith, length}
 use Rattle.std.specs.Vec.{with_items}
 use Rattle.std.proofs.lemmas.List.{with_items_is}
-use Rattle.sym_blocks.specs.Storage.{own_lists_of, zero_blocks_of, LinksLists}
+use Rattle.sym_blocks.specs.Storage.{own_lists_of, zero_blocks_of}
+use Rattle.lists.specs.Lists.{LinksLists}
 use Rattle.sym_blocks.proofs.NewLemmas.{length-own_lists_of, IsStorage-new, IsRising-own, entry-zero, members_linked}
 use Rattle.sym_blocks.proofs.blocks.SymBlocks.new.Goals as goal
 
@@ -40,7 +41,7 @@ invariant_of-result c =
 pub returns-clause-nodes : goal.returns-clause-nodes
 returns-clause-nodes c =
     let m = made c in
-    ap (λ ls. length (contents ls)) m.lists ∙ m.links.nodes ∙ length-own_lists_of c.args.nodes
+    ap (λ ls. length (contents ls)) m.lists ∙ m.links.count ∙ length-own_lists_of c.args.nodes
 
 pub returns-clause-pattern : goal.returns-clause-pattern
 returns-clause-pattern c n k =

@@ -1,0 +1,20 @@
+use Rattle.std.proofs.Common.{refl, arith, pos}
+use Rattle.std.proofs.lemmas.Int.{ints}
+use Rattle.flex_num.specs.Division.{floor_of, ceil_of}
+use Rattle.flex_interval.specs.Operations.{multiple_of, ratio_of}
+use Rattle.angle_table.specs.Pi.{pi_ends}
+use Rattle.angle_table.specs.HalfAngle.{cosine_of, sine_of}
+use Rattle.angle_table.proofs.RoundedTable.{cosine_45, cosine_22_half, sine_22_half}
+use Rattle.angle_table.proofs.ArcLemmas.{arc_within}
+use Rattle.angle_table.proofs.table.twenty_two_and_a_half.Goals as goal
+
+pub returns-clause-value : goal.returns-clause-value
+unfolding ratio_of multiple_of floor_of ceil_of cosine_of sine_of
+returns-clause-value c = record { a = refl; cos = rw cosine_45 cosine_22_half; sin = rw cosine_45 sine_22_half }
+
+pub returns-clause-encloses : goal.returns-clause-encloses
+returns-clause-encloses c = record {
+  arc = arc_within pi_ends (pos 28296951008113761) (pos 28296951008113762) 45000 360000 (omega (arith, ints)) (omega (arith, ints)) (omega (arith, ints));
+  cosine = record { at_least = refl; at_most = refl };
+  sine = record { nonnegative = refl; at_least = refl; at_most = refl };
+}

@@ -1,6 +1,0 @@
-use Rattle.std.proofs.Common.{◌≡◌, replicate, []}
-use Rattle.lists.specs.Lists.{contents}
-use Rattle.factor.proofs.recurrence.empty_lists.Given as goal
-
-abbrev pub invariant-loop-list : goal.invariant-loop-list
-invariant-loop-list l = contents l.lists.items ≡ replicate l._list []

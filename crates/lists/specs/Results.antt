@@ -1,0 +1,7 @@
+-- Results in a chain.
+use Rattle.std.specs.Prelude.{Result, Ok, Err}
+
+-- the next result, of the value; the first error stays
+abbrev pub and_then : {A B E : Type 0} → Result A E → (A → Result B E) → Result B E
+and_then (Ok a) next = next a
+and_then (Err e) next = Err e

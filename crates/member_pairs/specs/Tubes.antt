@@ -1,0 +1,28 @@
+-- The pipe of an element as a round tube of outside diameter D and inside diameter d: what its stiffness comes from.
+use Rattle.std.specs.Prelude.{◌^◌, ◌*◌, false, ℤ, pos, ◌+ℤ◌, ◌*ℤ◌, ◌≤ℤ◌}
+use Rattle.model_types.specs.declared.records.Section.{Section}
+use Rattle.model_types.specs.declared.records.Material.{Material}
+use Rattle.model_types.specs.Ranges.{IsIn, modulus, poisson_ratio}
+use Rattle.section_data.specs.Tube.{square_difference, square_sum}
+use Rattle.member_pairs.specs.declared.tube.Tube.{Tube}
+
+-- the tube of the full wall
+abbrev pub tube_of : Section → Material → Tube
+tube_of s m = record { modulus = m.e; poisson_ratio = m.nu; square_difference = square_difference s false; square_sum = square_sum s false }
+
+-- a tube of a section and material in range
+pub record IsRound (t : Tube) : Type 0 where
+  pub modulus : IsIn modulus t.modulus
+  pub poisson_ratio : IsIn poisson_ratio t.poisson_ratio
+  pub difference_low : pos 0 ≤ℤ t.square_difference
+  pub difference_high : t.square_difference ≤ℤ pos (4 * 10 ^ 12)
+  pub sum_low : pos 0 ≤ℤ t.square_sum
+  pub sum_high : t.square_sum ≤ℤ pos (8 * 10 ^ 12)
+
+-- E (D^2 - d^2), in N for D and d in 10^-6 m
+abbrev pub load_of : Tube → ℤ
+load_of t = t.modulus *ℤ t.square_difference
+
+-- 1 + nu, in thousandths
+abbrev pub divisor_of : Tube → ℤ
+divisor_of t = pos 1000 +ℤ t.poisson_ratio

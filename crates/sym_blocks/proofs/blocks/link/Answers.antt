@@ -1,6 +1,0 @@
-use Rattle.std.proofs.lemmas.Result.{on_ok_weaker}
-use Rattle.sym_blocks.proofs.LinkLemmas.{LinksLists-both}
-use Rattle.sym_blocks.proofs.blocks.link.Goals as goal
-
-pub returns : goal.returns
-returns c = on_ok_weaker c.list_number-2.result (λ second. LinksLists-both _ _ _ c.args.n c.args.k c.in_ok-list_number.ensures second) c.list_number-2.ensures

@@ -1,7 +1,0 @@
-use Rattle.lists.specs.Lists.{contents}
-use Rattle.std.proofs.Common.{take}
-use Rattle.sym_blocks.specs.Storage.{LinksLists}
-use Rattle.sym_blocks.proofs.blocks.link_pairs.Given as goal
-
-abbrev pub invariant-loop-n : goal.invariant-loop-n
-invariant-loop-n l = LinksLists (contents l.initial.lists) (contents l.lists) (take l.n-index l.pairs)
