@@ -14,7 +14,8 @@ use Rattle.member_set.specs.Interval.{Outcome, limited_force}
 use Rattle.member_set.proofs.Fractions.{sum_within, within-moved}
 use Rattle.member_set.proofs.Turns.{in_turn-next}
 use Rattle.model_types.specs.Lists.{Lists}
-use Rattle.model_types.specs.Rules.{IsModel, KeepsForce}
+use Rattle.model_types.specs.declared.records.Record.TheVariants as record_of
+use Rattle.model_types.specs.Rules.{IsModel, Keeps}
 use Rattle.std.proofs.lemmas.List.Elements.{All-get_or}
 use Rattle.model_types.specs.declared.records.Force.{Force}
 use Rattle.load_vectors.specs.declared.fault.LoadFault.{LoadFault}
@@ -66,10 +67,10 @@ same_total m case row n e few off t =
 -- ---- where a force acts
 -- a model's force is on one of its nodes, and one of 4000
 pub few_forces : (m : Lists) (n : ℕ) → IsModel m → n < length m.forces → n < 4000
-few_forces m n model inside = let few = model.rules.limits.forces in omega (arith, few, inside)
+few_forces m n model inside = let few = model.few.forces in omega (arith, few, inside)
 
-pub force_kept : (m : Lists) (n : ℕ) (f : Force) → IsModel m → n < length m.forces → f ≡ get_or m.forces n no_force → KeepsForce m.cases m.nodes f
-force_kept m n f model inside is = rw is (All-get_or (KeepsForce m.cases m.nodes) m.forces n no_force inside model.rules.forces)
+pub force_kept : (m : Lists) (n : ℕ) (f : Force) → IsModel m → n < length m.forces → f ≡ get_or m.forces n no_force → Keeps m (record_of.Force f)
+force_kept m n f model inside is = rw is (All-get_or (λ x. Keeps m (record_of.Force x)) m.forces n no_force inside model.kept.forces)
 
 force_on-here : (m : Lists) (case row n : ℕ) (f : Force) → f ≡ get_or m.forces n no_force → f.case.0 ≡ case → f.node.0 ≡ row / 6 → force_on m case row n ≡ part_of f (row % 6)
 force_on-here m case row n f is of_case on_node = rw (← is) (grind (arith, nat_tests))

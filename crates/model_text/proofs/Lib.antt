@@ -1,5 +1,4 @@
 mod Appended
-mod Fronts
 mod LineLemmas
 mod PlainWords
 mod RoundTrip

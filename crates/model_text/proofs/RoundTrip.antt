@@ -1,220 +1,146 @@
 -- A model's canonical text is read as the model.
-use Rattle.std.proofs.Common.{◌≡◌, ℕ, ◌+◌, ◌<◌, ◌≤◌, ◌==◌, true, false, not, List, [], ◌∷◌, ◌++◌, length, inl, inr, Result, Ok, Err, IfOk, codes, refl, sym, ap, subst, ◌∙◌, append_assoc, append-nil, arith}
+use Rattle.std.proofs.Common.{◌≡◌, ℕ, ◌+◌, ◌<◌, ◌≤◌, ◌==◌, true, false, List, [], ◌∷◌, ◌++◌, flat_map, take, length, length-append, slice_get, Some, Result, Ok, Err, IfOk, codes, refl, sym, ap, subst, ◌∙◌, append_assoc, append-nil, arith}
+use Rattle.std.proofs.Math.Seq.{take-length}
 use Rattle.std.proofs.lemmas.Bool.{cond-false, ne_eqb, not_from_true}
-use Rattle.std.proofs.lemmas.List.Elements.{All-weaker}
+use Rattle.std.proofs.lemmas.List.{get_or_at, take_more}
+use Rattle.std.proofs.lemmas.Option.{slice_get-get_or, slice_get_within, get_or_from_slice_get}
 use Rattle.std.specs.List.{join_with_byte}
 use Rattle.text_words.specs.Fields.{line, lines}
-use Rattle.model_types.specs.declared.records.Material.{Material}
-use Rattle.model_types.specs.declared.records.Section.{Section}
-use Rattle.model_types.specs.declared.records.Node.{Node}
-use Rattle.model_types.specs.declared.records.Element.{Element}
-use Rattle.model_types.specs.declared.records.Tee.{Tee}
-use Rattle.model_types.specs.declared.records.Restraint.{Restraint}
 use Rattle.model_types.specs.declared.records.Case.{Case}
-use Rattle.model_types.specs.declared.records.Temp.{Temp}
-use Rattle.model_types.specs.declared.records.Pressure.{Pressure}
-use Rattle.model_types.specs.declared.records.Force.{Force}
-use Rattle.model_types.specs.declared.records.Move.{Move}
-use Rattle.model_types.specs.declared.records.Check.{Check}
-use Rattle.model_types.specs.declared.records.Record.TheVariants as record_of
-use Rattle.model_types.specs.Lists.{Lists, no_records}
-use Rattle.model_types.specs.Rules.{IsModel, KeepsRules}
-use Rattle.model_text.specs.Canonical.{canonical, record_lines}
+use Rattle.model_types.specs.declared.records.RestraintKind.{RestraintKind}
+use Rattle.model_types.specs.declared.records.RestraintKind.TheVariants.{Anchor, Linear, Twist}
+use Rattle.model_types.specs.Kinds.{Kind, material_kind, section_kind, node_kind, element_kind, restraint_kind, case_kind, force_kind, kinds, place, Of, list, as_record, before_place, before}
+use Rattle.model_types.specs.Lists.{Lists, no_records, added}
+use Rattle.model_types.specs.Refusals.{RecordsFollow}
+use Rattle.model_types.specs.Rules.{IsModel}
+use Rattle.model_text.specs.Canonical.{canonical, record_lines, kind_lines}
 use Rattle.model_text.specs.Grammar.{after_lines, parsed, whole}
-use Rattle.model_text.specs.Lines.{State, start, is_at_rest}
+use Rattle.model_text.specs.Lines.{State, start, is_at_rest, is_loaded_case}
 use Rattle.model_text.specs.RoundTrip.{AreCasesAtRest, CanonicalReadsBack}
-use Rattle.model_text.proofs.Fronts.{IsFront, whole_front, no_front, KeepsRules-fronts}
+use Rattle.model_text.specs.Rows.{restraint_words, words_of}
 use Rattle.model_text.proofs.LineLemmas.{after_lines-Ok, after_lines-nil, parsed-lines}
 use Rattle.model_text.proofs.PlainWords.{no_words, one_more, lines-line}
-use Rattle.model_text.proofs.WrittenLines.{Leads, Leads-on, Leads-kind, below}
+use Rattle.model_text.proofs.WrittenLines.{Leads, Leads-on, Leads-record, below}
+use Rattle.model_text.proofs.WrittenRecords.{IsWritten, written}
 
-module _ (m : Lists) (k : KeepsRules m) where
-  -- what has been read with the first records of a kind
-  abbrev materials_read : List Material → Lists
-  materials_read front = record no_records { materials = front }
+-- an element at a place of a list
+slice_get-at : {X : Type 0} (done : List X) (x : X) (left : List X) → slice_get (done ++ x ∷ left) (length done) ≡ Some x
+slice_get-at done x left =
+    let inside : length done < length (done ++ x ∷ left) = omega (arith, length-append done (x ∷ left)) in
+    slice_get-get_or (done ++ x ∷ left) (length done) x inside ∙ ap Some (get_or_at done x left x (length done) refl)
 
-  abbrev sections_read : List Section → Lists
-  sections_read front = record no_records { materials = m.materials; sections = front }
+one_more_taken : {X : Type 0} (xs : List X) (i : ℕ) (x : X) → slice_get xs i ≡ Some x → take (i + 1) xs ≡ take i xs ++ x ∷ []
+one_more_taken xs i x at = take_more xs i x (slice_get_within xs i x at) ∙ ap (λ y. take i xs ++ y ∷ []) (get_or_from_slice_get xs i x x at)
 
-  abbrev nodes_read : List Node → Lists
-  nodes_read front = record no_records { materials = m.materials; sections = m.sections; nodes = front }
+-- a restraint's words name a node, and the nodes stand before it
+restraint_same : (m : Lists) (i : ℕ) (name : List ℕ) (node : ℕ) (kind : RestraintKind) → restraint_words (before m restraint_kind i) name node kind ≡ restraint_words m name node kind
+restraint_same m i name node (Anchor kt kr) = refl
+restraint_same m i name node (Linear x y z k) = refl
+restraint_same m i name node (Twist x y z k) = refl
 
-  abbrev elements_read : List Element → Lists
-  elements_read front = record no_records { materials = m.materials; sections = m.sections; nodes = m.nodes; elements = front }
+case_calm : (m : Lists) → AreCasesAtRest m → (i : ℕ) (x : Case) → slice_get m.cases i ≡ Some x → is_loaded_case (as_record case_kind x) ≡ false
+case_calm m rest i x at =
+    let here : is_at_rest x ≡ true = subst (λ y. is_at_rest y ≡ true) (get_or_from_slice_get m.cases i x x at) (rest i x (slice_get_within m.cases i x at)) in
+    not_from_true (is_at_rest x) here
 
-  abbrev restraints_read : List Restraint → Lists
-  restraints_read front = record no_records { materials = m.materials; sections = m.sections; nodes = m.nodes; elements = m.elements; restraints = front }
+-- what a kind's definitions say of its records behind those before them: one more is the next, all of them stand before the next kind,
+-- their words are those in the whole model, and no case is loaded
+record OfKind (k : Kind) : Type 0 where
+  next : (m : Lists) (i : ℕ) (x : Of k) → take (i + 1) (list m k) ≡ take i (list m k) ++ x ∷ [] → added (before m k i) (as_record k x) ≡ before m k (i + 1)
+  whole : (m : Lists) → before m k (length (list m k)) ≡ before_place m (place k + 1) 0
+  words : (m : Lists) (i : ℕ) (x : Of k) → words_of (before m k i) (as_record k x) ≡ words_of m (as_record k x)
+  calm : (m : Lists) → AreCasesAtRest m → (i : ℕ) (x : Of k) → slice_get (list m k) i ≡ Some x → is_loaded_case (as_record k x) ≡ false
 
-  abbrev cases_read : List Case → Lists
-  cases_read front = record no_records { materials = m.materials; sections = m.sections; nodes = m.nodes; elements = m.elements; restraints = m.restraints; cases = front }
+of_kind : (k : Kind) → OfKind k
+of_kind material_kind = record {
+  next = λ m i x more. ap (λ xs. record (before_place m 0 0) { materials = xs }) (sym more);
+  whole = λ m. ap (λ xs. record (before_place m 0 0) { materials = xs }) (take-length m.materials);
+  words = λ m i x. refl;
+  calm = λ m rest i x at. refl;
+}
+of_kind section_kind = record {
+  next = λ m i x more. ap (λ xs. record (before_place m 1 0) { sections = xs }) (sym more);
+  whole = λ m. ap (λ xs. record (before_place m 1 0) { sections = xs }) (take-length m.sections);
+  words = λ m i x. refl;
+  calm = λ m rest i x at. refl;
+}
+of_kind node_kind = record {
+  next = λ m i x more. ap (λ xs. record (before_place m 2 0) { nodes = xs }) (sym more);
+  whole = λ m. ap (λ xs. record (before_place m 2 0) { nodes = xs }) (take-length m.nodes);
+  words = λ m i x. refl;
+  calm = λ m rest i x at. refl;
+}
+of_kind element_kind = record {
+  next = λ m i x more. ap (λ xs. record (before_place m 3 0) { elements = xs }) (sym more);
+  whole = λ m. ap (λ xs. record (before_place m 3 0) { elements = xs }) (take-length m.elements);
+  words = λ m i x. refl;
+  calm = λ m rest i x at. refl;
+}
+of_kind restraint_kind = record {
+  next = λ m i x more. ap (λ xs. record (before_place m 4 0) { restraints = xs }) (sym more);
+  whole = λ m. ap (λ xs. record (before_place m 4 0) { restraints = xs }) (take-length m.restraints);
+  words = λ m i x. restraint_same m i x.name x.node.0 x.kind;
+  calm = λ m rest i x at. refl;
+}
+of_kind case_kind = record {
+  next = λ m i x more. ap (λ xs. record (before_place m 5 0) { cases = xs }) (sym more);
+  whole = λ m. ap (λ xs. record (before_place m 5 0) { cases = xs }) (take-length m.cases);
+  words = λ m i x. refl;
+  calm = λ m rest i x at. case_calm m rest i x at;
+}
+of_kind force_kind = record {
+  next = λ m i x more. ap (λ xs. record (before_place m 6 0) { forces = xs }) (sym more);
+  whole = λ m. ap (λ xs. record (before_place m 6 0) { forces = xs }) (take-length m.forces);
+  words = λ m i x. refl;
+  calm = λ m rest i x at. refl;
+}
 
-  abbrev forces_read : List Force → Lists
-  forces_read front = record no_records { materials = m.materials; sections = m.sections; nodes = m.nodes; elements = m.elements; restraints = m.restraints; cases = m.cases; forces = front }
+-- kinds from a place on, in their order
+abbrev AreFrom : ℕ → List Kind → Type 0
+AreFrom n [] = Unit {0}
+AreFrom n (k ∷ ks) = (place k ≡ n) × AreFrom (n + 1) ks
 
-  -- they keep the rules
-  materials_kept : (front : List Material) → IsFront front m.materials → KeepsRules (materials_read front)
-  materials_kept front f = KeepsRules-fronts (materials_read front) m (record {
-    materials = f;
-    sections = no_front m.sections;
-    nodes = no_front m.nodes;
-    elements = no_front m.elements;
-    restraints = no_front m.restraints;
-    cases = no_front m.cases;
-    forces = no_front m.forces;
-    before_sections = inr refl;
-    before_elements = inr refl;
-    before_restraints = inr refl;
-    before_forces = inr refl;
-    other_kinds = record { tees = refl; temps = refl; pressures = refl; moves = refl; checks = refl };
-  }) k
+module _ (follow : RecordsFollow) (m : Lists) (is : IsModel m) (at_rest : AreCasesAtRest m) where
+  module _ (k : Kind) (rest : List ℕ) where
+    -- one record of a kind is read
+    Leads-one : (i : ℕ) (x : Of k) (left : List ℕ) → slice_get (list m k) i ≡ Some x → Leads (below (before m k i)) (line (words_of m (as_record k x)) ++ left) (below (before m k (i + 1))) left
+    Leads-one i x left at =
+        let p = before m k i in
+        let r = as_record k x in
+        let words : IsWritten p r (words_of m r) = subst (IsWritten p r) ((of_kind k).words m i x) (written m is k i x (is.rules.records k i x at)) in
+        subst (λ l. Leads (below p) (line (words_of m r) ++ left) (below l) left) ((of_kind k).next m i x (one_more_taken (list m k) i x at))
+        (Leads-record p r (follow m is.rules k i x at) ((of_kind k).calm m at_rest i x at) (words_of m r) words left)
 
-  sections_kept : (front : List Section) → IsFront front m.sections → KeepsRules (sections_read front)
-  sections_kept front f = KeepsRules-fronts (sections_read front) m (record {
-    materials = whole_front m.materials;
-    sections = f;
-    nodes = no_front m.nodes;
-    elements = no_front m.elements;
-    restraints = no_front m.restraints;
-    cases = no_front m.cases;
-    forces = no_front m.forces;
-    before_sections = inl refl;
-    before_elements = inr refl;
-    before_restraints = inr refl;
-    before_forces = inr refl;
-    other_kinds = record { tees = refl; temps = refl; pressures = refl; moves = refl; checks = refl };
-  }) k
+    -- the records that are left of a kind
+    Leads-left : (done left : List (Of k)) → list m k ≡ done ++ left → Leads (below (before m k (length done))) (record_lines m (as_record k) left ++ rest) (below (before m k (length (list m k)))) rest
+    Leads-left done [] all = record { from = λ n. (n, ap (λ xs. after_lines (below (before m k (length xs))) n (lines rest)) (sym (all ∙ append-nil done))) }
+    Leads-left done (x ∷ left) all =
+        let more : list m k ≡ (done ++ x ∷ []) ++ left = all ∙ sym (append_assoc done (x ∷ []) left) in
+        let at : slice_get (list m k) (length done) ≡ Some x = ap (λ l. slice_get l (length done)) all ∙ slice_get-at done x left in
+        let behind : List ℕ = record_lines m (as_record k) left ++ rest in
+        let first = Leads-one (length done) x behind at in
+        let place : length done + 1 ≡ length (done ++ x ∷ []) = omega (arith, length-append done (x ∷ [])) in
+        let second : Leads (below (before m k (length done + 1))) behind (below (before m k (length (list m k)))) rest =
+        subst (λ i. Leads (below (before m k i)) behind (below (before m k (length (list m k)))) rest) (sym place) (Leads-left (done ++ x ∷ []) left more) in
+        subst (λ text. Leads (below (before m k (length done))) text (below (before m k (length (list m k)))) rest)
+        (sym (append_assoc (line (words_of m (as_record k x))) (record_lines m (as_record k) left) rest)) (Leads-on _ _ _ _ behind rest first second)
 
-  nodes_kept : (front : List Node) → IsFront front m.nodes → KeepsRules (nodes_read front)
-  nodes_kept front f = KeepsRules-fronts (nodes_read front) m (record {
-    materials = whole_front m.materials;
-    sections = whole_front m.sections;
-    nodes = f;
-    elements = no_front m.elements;
-    restraints = no_front m.restraints;
-    cases = no_front m.cases;
-    forces = no_front m.forces;
-    before_sections = inl refl;
-    before_elements = inr refl;
-    before_restraints = inr refl;
-    before_forces = inr refl;
-    other_kinds = record { tees = refl; temps = refl; pressures = refl; moves = refl; checks = refl };
-  }) k
+    -- all records of a kind
+    Leads-kind : Leads (below (before m k 0)) (kind_lines m k ++ rest) (below (before_place m (place k + 1) 0)) rest
+    Leads-kind = subst (λ l. Leads (below (before m k 0)) (kind_lines m k ++ rest) (below l) rest) ((of_kind k).whole m) (Leads-left [] (list m k) refl)
 
-  elements_kept : (front : List Element) → IsFront front m.elements → KeepsRules (elements_read front)
-  elements_kept front f = KeepsRules-fronts (elements_read front) m (record {
-    materials = whole_front m.materials;
-    sections = whole_front m.sections;
-    nodes = whole_front m.nodes;
-    elements = f;
-    restraints = no_front m.restraints;
-    cases = no_front m.cases;
-    forces = no_front m.forces;
-    before_sections = inl refl;
-    before_elements = inl refl;
-    before_restraints = inr refl;
-    before_forces = inr refl;
-    other_kinds = record { tees = refl; temps = refl; pressures = refl; moves = refl; checks = refl };
-  }) k
-
-  restraints_kept : (front : List Restraint) → IsFront front m.restraints → KeepsRules (restraints_read front)
-  restraints_kept front f = KeepsRules-fronts (restraints_read front) m (record {
-    materials = whole_front m.materials;
-    sections = whole_front m.sections;
-    nodes = whole_front m.nodes;
-    elements = whole_front m.elements;
-    restraints = f;
-    cases = no_front m.cases;
-    forces = no_front m.forces;
-    before_sections = inl refl;
-    before_elements = inl refl;
-    before_restraints = inl refl;
-    before_forces = inr refl;
-    other_kinds = record { tees = refl; temps = refl; pressures = refl; moves = refl; checks = refl };
-  }) k
-
-  cases_kept : (front : List Case) → IsFront front m.cases → KeepsRules (cases_read front)
-  cases_kept front f = KeepsRules-fronts (cases_read front) m (record {
-    materials = whole_front m.materials;
-    sections = whole_front m.sections;
-    nodes = whole_front m.nodes;
-    elements = whole_front m.elements;
-    restraints = whole_front m.restraints;
-    cases = f;
-    forces = no_front m.forces;
-    before_sections = inl refl;
-    before_elements = inl refl;
-    before_restraints = inl refl;
-    before_forces = inr refl;
-    other_kinds = record { tees = refl; temps = refl; pressures = refl; moves = refl; checks = refl };
-  }) k
-
-  forces_kept : (front : List Force) → IsFront front m.forces → KeepsRules (forces_read front)
-  forces_kept front f = KeepsRules-fronts (forces_read front) m (record {
-    materials = whole_front m.materials;
-    sections = whole_front m.sections;
-    nodes = whole_front m.nodes;
-    elements = whole_front m.elements;
-    restraints = whole_front m.restraints;
-    cases = whole_front m.cases;
-    forces = f;
-    before_sections = inl refl;
-    before_elements = inl refl;
-    before_restraints = inl refl;
-    before_forces = inl refl;
-    other_kinds = record { tees = refl; temps = refl; pressures = refl; moves = refl; checks = refl };
-  }) k
-
-  module _ (at_rest : AreCasesAtRest m) (rest : List ℕ) where
-    Leads-materials : Leads (below no_records) (record_lines m record_of.Material m.materials ++ rest) (below (materials_read m.materials)) rest
-    Leads-materials = Leads-kind m record_of.Material materials_read m.materials materials_kept (λ i x inside. refl) (λ xs x. refl) (λ xs x. refl) rest
-
-    Leads-sections : Leads (below (materials_read m.materials)) (record_lines m record_of.Section m.sections ++ rest) (below (sections_read m.sections)) rest
-    Leads-sections = Leads-kind m record_of.Section sections_read m.sections sections_kept (λ i x inside. refl) (λ xs x. refl) (λ xs x. refl) rest
-
-    Leads-nodes : Leads (below (sections_read m.sections)) (record_lines m record_of.Node m.nodes ++ rest) (below (nodes_read m.nodes)) rest
-    Leads-nodes = Leads-kind m record_of.Node nodes_read m.nodes nodes_kept (λ i x inside. refl) (λ xs x. refl) (λ xs x. refl) rest
-
-    Leads-elements : Leads (below (nodes_read m.nodes)) (record_lines m record_of.Element m.elements ++ rest) (below (elements_read m.elements)) rest
-    Leads-elements = Leads-kind m record_of.Element elements_read m.elements elements_kept (λ i x inside. refl) (λ xs x. refl) (λ xs x. refl) rest
-
-    Leads-restraints : Leads (below (elements_read m.elements)) (record_lines m record_of.Restraint m.restraints ++ rest) (below (restraints_read m.restraints)) rest
-    Leads-restraints = Leads-kind m record_of.Restraint restraints_read m.restraints restraints_kept (λ i x inside. refl) (λ xs x. refl) (λ xs x. refl) rest
-
-    Leads-cases : Leads (below (restraints_read m.restraints)) (record_lines m record_of.Case m.cases ++ rest) (below (cases_read m.cases)) rest
-    Leads-cases =
-        Leads-kind m record_of.Case cases_read m.cases cases_kept (All-weaker (λ c. is_at_rest c ≡ true) (λ c. not (is_at_rest c) ≡ false) (λ c. not_from_true (is_at_rest c)) m.cases at_rest) (λ xs x. refl) (λ xs x. refl) rest
-
-    Leads-forces : Leads (below (cases_read m.cases)) (record_lines m record_of.Force m.forces ++ rest) (below (forces_read m.forces)) rest
-    Leads-forces = Leads-kind m record_of.Force forces_read m.forces forces_kept (λ i x inside. refl) (λ xs x. refl) (λ xs x. refl) rest
-
-  -- the text from each kind on
-  abbrev from_forces : List ℕ
-  from_forces = record_lines m record_of.Force m.forces ++ []
-
-  abbrev from_cases : List ℕ
-  from_cases = record_lines m record_of.Case m.cases ++ from_forces
-
-  abbrev from_restraints : List ℕ
-  from_restraints = record_lines m record_of.Restraint m.restraints ++ from_cases
-
-  abbrev from_elements : List ℕ
-  from_elements = record_lines m record_of.Element m.elements ++ from_restraints
-
-  abbrev from_nodes : List ℕ
-  from_nodes = record_lines m record_of.Node m.nodes ++ from_elements
-
-  abbrev from_sections : List ℕ
-  from_sections = record_lines m record_of.Section m.sections ++ from_nodes
-
-  abbrev from_materials : List ℕ
-  from_materials = record_lines m record_of.Material m.materials ++ from_sections
+  -- the kinds one after the other
+  Leads-kinds : (ks : List Kind) (n : ℕ) → AreFrom n ks → Leads (below (before_place m n 0)) (flat_map (kind_lines m) ks) (below (before_place m (n + length ks) 0)) []
+  Leads-kinds [] n are = let here : n ≡ n + 0 = omega arith in record { from = λ l. (l, ap (λ p. after_lines (below (before_place m p 0)) l (lines [])) here) }
+  Leads-kinds (k ∷ ks) n are =
+      let behind : List ℕ = flat_map (kind_lines m) ks in
+      let first : Leads (below (before_place m n 0)) (kind_lines m k ++ behind) (below (before_place m (n + 1) 0)) behind =
+      subst (λ p. Leads (below (before_place m p 0)) (kind_lines m k ++ behind) (below (before_place m (p + 1) 0)) behind) are.0 (Leads-kind k behind) in
+      let count : n + 1 + length ks ≡ n + length (k ∷ ks) = omega arith in
+      subst (λ p. Leads (below (before_place m n 0)) (kind_lines m k ++ behind) (below (before_place m p 0)) []) count (Leads-on _ _ _ _ behind [] first (Leads-kinds ks (n + 1) are.1))
 
   abbrev header : List (List ℕ)
   header = codes "pipeflex" ∷ codes "1" ∷ []
-
-  canonical_parts : canonical m ≡ line header ++ from_materials
-  unfolding canonical
-  canonical_parts = simp (append_assoc, append-nil)
 
   Leads-header : (left : List ℕ) → Leads start (line header ++ left) (below no_records) left
   Leads-header left = record {
@@ -225,40 +151,30 @@ module _ (m : Lists) (k : KeepsRules m) where
     );
   }
 
-  Leads-all : AreCasesAtRest m → Leads start (canonical m) (below (forces_read m.forces)) []
-  Leads-all at_rest =
-      subst (λ text. Leads start text (below (forces_read m.forces)) []) (sym canonical_parts)
-      (Leads-on _ _ _ _ from_materials [] (Leads-header from_materials)
-      (Leads-on _ _ _ _ from_sections [] (Leads-materials at_rest from_sections)
-      (Leads-on _ _ _ _ from_nodes [] (Leads-sections at_rest from_nodes)
-      (Leads-on _ _ _ _ from_elements [] (Leads-nodes at_rest from_elements)
-      (Leads-on _ _ _ _ from_restraints [] (Leads-elements at_rest from_restraints)
-      (Leads-on _ _ _ _ from_cases [] (Leads-restraints at_rest from_cases) (Leads-on _ _ _ _ from_forces [] (Leads-cases at_rest from_forces) (Leads-forces at_rest []))))))))
+  -- behind all kinds stands the whole model
+  all_read : before_place m 7 0 ≡ m
+  all_read = ap (λ o. record m { tees = o.tees; temps = o.temps; pressures = o.pressures; moves = o.moves; checks = o.checks }) (sym is.rules.other_kinds)
 
-  all_lines : AreCasesAtRest m → after_lines start 1 (lines (canonical m)) ≡ Ok (below (forces_read m.forces))
-  all_lines at_rest =
-      let led = (Leads-all at_rest).from 1 in
-      let end : State = below (forces_read m.forces) in
+  Leads-all : Leads start (canonical m) (below m) []
+  unfolding canonical
+  Leads-all =
+      let kinds_read : Leads (below no_records) (flat_map (kind_lines m) kinds) (below (before_place m 7 0)) [] = Leads-kinds kinds 0 (refl, (refl, (refl, (refl, (refl, (refl, (refl, tt))))))) in
+      Leads-on _ _ _ _ (flat_map (kind_lines m) kinds) [] (Leads-header (flat_map (kind_lines m) kinds)) (subst (λ l. Leads (below no_records) (flat_map (kind_lines m) kinds) (below l) []) all_read kinds_read)
+
+  all_lines : after_lines start 1 (lines (canonical m)) ≡ Ok (below m)
+  all_lines =
+      let led = Leads-all.from 1 in
+      let end : State = below m in
       led.1 ∙ after_lines-Ok end led.0 [] [] end refl ∙ after_lines-nil end (led.0 + 1)
 
-  -- what has been read is the whole model
-  abbrev with_others : List Tee → List Temp → List Pressure → List Move → List Check → Lists
-  with_others tees temps pressures moves checks = record m { tees = tees; temps = temps; pressures = pressures; moves = moves; checks = checks }
+  whole_model : whole (Ok (below m)) ≡ Ok m
+  whole_model = cond-false (length m.nodes == 0) (Err (record { number = 15; line = 1 })) _ (ne_eqb (length m.nodes) 0 (λ none. omega (arith, is.some_node)))
 
-  all_read : forces_read m.forces ≡ m
-  all_read =
-      let o = k.other_kinds in
-      ap (λ l. with_others l [] [] [] []) (sym o.tees) ∙ ap (λ l. with_others m.tees l [] [] []) (sym o.temps) ∙ ap (λ l. with_others m.tees m.temps l [] []) (sym o.pressures)
-      ∙ ap (λ l. with_others m.tees m.temps m.pressures l []) (sym o.moves) ∙ ap (λ l. with_others m.tees m.temps m.pressures m.moves l) (sym o.checks)
-
-  whole_model : 0 < length m.nodes → whole (Ok (below (forces_read m.forces))) ≡ Ok m
-  whole_model some = cond-false (length m.nodes == 0) (Err (record { number = 15; line = 1 })) _ (ne_eqb (length m.nodes) 0 (λ none. omega arith)) ∙ ap Ok all_read
-
-pub canonical_reads_back : CanonicalReadsBack
-canonical_reads_back m is at_rest short = parsed-lines (canonical m) short ∙ ap whole (all_lines m is.rules at_rest) ∙ whole_model m is.rules is.some_node
+canonical_reads_back : RecordsFollow → CanonicalReadsBack
+canonical_reads_back follow m is at_rest short = parsed-lines (canonical m) short ∙ ap whole (all_lines follow m is at_rest) ∙ whole_model follow m is at_rest
 
 -- the same for a text that is known to be canonical, where there is one
-pub if_reads_back : {T E : Type 0} (m : Lists) (items : T → List ℕ) (r : Result T E) → IsModel m → IfOk r (λ text. items text ≡ canonical m)
+pub if_reads_back : {T E : Type 0} → RecordsFollow → (m : Lists) (items : T → List ℕ) (r : Result T E) → IsModel m → IfOk r (λ text. items text ≡ canonical m)
     → IfOk r (λ text. AreCasesAtRest m → length (items text) ≤ 4194304 → parsed (items text) ≡ Ok m)
-if_reads_back m items (Ok text) is same = subst (λ bytes. AreCasesAtRest m → length bytes ≤ 4194304 → parsed bytes ≡ Ok m) (sym same) (canonical_reads_back m is)
-if_reads_back m items (Err e) is same = tt
+if_reads_back follow m items (Ok text) is same = subst (λ bytes. AreCasesAtRest m → length bytes ≤ 4194304 → parsed bytes ≡ Ok m) (sym same) (canonical_reads_back follow m is)
+if_reads_back follow m items (Err e) is same = tt

@@ -12,10 +12,10 @@ use Rattle.model_types.specs.declared.records.RestraintKind.TheVariants.{Anchor,
 use Rattle.model_types.specs.declared.records.Record.{Record}
 use Rattle.model_types.specs.declared.records.Record.TheVariants as record_of
 use Rattle.model_types.specs.declared.ids.Space.TheVariants as space_of
-use Rattle.model_types.specs.Lists.{Lists, added, names_in}
-use Rattle.model_types.specs.Ranges.{MaterialInForm, NodeInForm, CaseInForm, KindInForm}
-use Rattle.model_types.specs.Rules.{KeepsRules, KeepsSection, KeepsElement, KeepsRestraint, KeepsForce}
-use Rattle.model_types.proofs.AllowedLemmas.{All-last}
+use Rattle.model_types.specs.Lists.{Lists, names_in}
+use Rattle.model_types.specs.Ranges.{KindInForm}
+use Rattle.model_types.specs.Kinds.{Kind, material_kind, section_kind, node_kind, element_kind, restraint_kind, case_kind, force_kind, Of, as_record, before}
+use Rattle.model_types.specs.Rules.{Keeps, IsModel}
 use Rattle.model_text.specs.Records.{record_of_words, record_under}
 use Rattle.model_text.specs.Rows.{Form, a_material, a_section, a_node, a_straight, an_anchor, a_linear, a_twist, a_case, a_force, first_word, row, Values, made, record_in, form_words, restraint_words, words_of}
 use Rattle.model_text.proofs.PlainWords.{is_plain, ArePlain, one_more}
@@ -70,34 +70,38 @@ module _ (m : Lists) where
   restraint_written name node is at (Linear x y z k) kind = form_written a_linear (name, (node, (record { x = x; y = y; z = z }, (k, tt)))) (is, (at, (kind.0, (kind.1, tt))))
   restraint_written name node is at (Twist x y z k) kind = form_written a_twist (name, (node, (record { x = x; y = y; z = z }, (k, tt)))) (is, (at, (kind.0, (kind.1, tt))))
 
--- a record behind which the rules are kept is read from its words
-pub written : (m : Lists) (r : Record) → KeepsRules (added m r) → IsWritten m r (words_of m r)
-written m (record_of.Material r) k =
-    let f = All-last MaterialInForm m.materials r k.materials in
-    form_written m a_material (r.name, (r.e, (r.nu, (r.alpha, (r.rho, tt))))) (f.name, (f.e, (f.nu, (f.alpha, (f.rho, tt)))))
-written m (record_of.Section r) k =
-    let own = All-last (KeepsSection m.materials) m.sections r k.sections in
-    let f = own.form in
-    form_written m a_section (r.name, (r.material.0, (r.d, (r.t, (r.allowance, (r.extra, tt))))))
-    (f.name, (named (λ x. x.name) MaterialInForm (λ x form. form.name) m.materials r.material.0 k.materials (k.names space_of.Material) own.material, (f.d, (f.t, (f.allowance, (f.extra, tt))))))
-written m (record_of.Node r) k =
-    let f = All-last NodeInForm m.nodes r k.nodes in
-    form_written m a_node (r.name, (r.x, (r.y, (r.z, tt)))) (f.name, (f.x, (f.y, (f.z, tt))))
-written m (record_of.Element r) k =
-    let own = All-last (KeepsElement m.nodes m.sections) m.elements r k.elements in
-    let nodes : (n : ℕ) → n < length m.nodes → IsNamed (names_in m space_of.Node) n = λ n inside. named (λ x. x.name) NodeInForm (λ x form. form.name) m.nodes n k.nodes (k.names space_of.Node) inside in
-    straight_written m r own.name (nodes r.from.0 own.from) (nodes r.to.0 own.to)
-    (named (λ x. x.name) (KeepsSection m.materials) (λ x keeps. keeps.form.name) m.sections r.section.0 k.sections (k.names space_of.Section) own.section) r.shape
-written m (record_of.Restraint r) k =
-    let own = All-last (KeepsRestraint m.nodes) m.restraints r k.restraints in
-    restraint_written m r.name r.node.0 own.name (named (λ x. x.name) NodeInForm (λ x form. form.name) m.nodes r.node.0 k.nodes (k.names space_of.Node) own.node) r.kind own.kind
-written m (record_of.Case r) k =
-    let f = All-last CaseInForm m.cases r k.cases in
-    form_written m a_case (r.name, (r.gx, (r.gy, (r.gz, (r.hangers, (r.dt, (r.p, tt))))))) (f.name, (f.gx, (f.gy, (f.gz, (tt, (f.dt, (f.p, tt)))))))
-written m (record_of.Force r) k =
-    let own = All-last (KeepsForce m.cases m.nodes) m.forces r k.forces in
-    let f = own.form in
-    form_written m a_force (r.case.0, (r.node.0, (r.fx, (r.fy, (r.fz, (r.mx, (r.my, (r.mz, tt)))))))) (
-      named (λ x. x.name) CaseInForm (λ x form. form.name) m.cases r.case.0 k.cases (k.names space_of.Case) own.case,
-      (named (λ x. x.name) NodeInForm (λ x form. form.name) m.nodes r.node.0 k.nodes (k.names space_of.Node) own.node, (f.fx, (f.fy, (f.fz, (f.mx, (f.my, (f.mz, tt))))))),
-    )
+-- a record of a model is read from its words behind those before it
+module _ (m : Lists) (is : IsModel m) where
+  material_at : (n : ℕ) → n < length m.materials → IsNamed (names_in m space_of.Material) n
+  material_at n inside = named (λ x. x.name) (λ x. Keeps m (record_of.Material x)) (λ x k. k.form.name) m.materials n is.kept.materials (is.rules.distinct material_kind refl) inside
+
+  section_at : (n : ℕ) → n < length m.sections → IsNamed (names_in m space_of.Section) n
+  section_at n inside = named (λ x. x.name) (λ x. Keeps m (record_of.Section x)) (λ x k. k.form.name) m.sections n is.kept.sections (is.rules.distinct section_kind refl) inside
+
+  node_at : (n : ℕ) → n < length m.nodes → IsNamed (names_in m space_of.Node) n
+  node_at n inside = named (λ x. x.name) (λ x. Keeps m (record_of.Node x)) (λ x k. k.form.name) m.nodes n is.kept.nodes (is.rules.distinct node_kind refl) inside
+
+  case_at : (n : ℕ) → n < length m.cases → IsNamed (names_in m space_of.Case) n
+  case_at n inside = named (λ x. x.name) (λ x. Keeps m (record_of.Case x)) (λ x k. k.form.name) m.cases n is.kept.cases (is.rules.distinct case_kind refl) inside
+
+  pub written : (k : Kind) (i : ℕ) (x : Of k) → Keeps (before m k i) (as_record k x) → IsWritten (before m k i) (as_record k x) (words_of (before m k i) (as_record k x))
+  written material_kind i r k =
+      let f = k.form in
+      form_written (before m material_kind i) a_material (r.name, (r.e, (r.nu, (r.alpha, (r.rho, tt))))) (f.name, (f.e, (f.nu, (f.alpha, (f.rho, tt)))))
+  written section_kind i r k =
+      let f = k.form in
+      form_written (before m section_kind i) a_section (r.name, (r.material.0, (r.d, (r.t, (r.allowance, (r.extra, tt))))))
+      (f.name, (material_at r.material.0 k.known.0, (f.d, (f.t, (f.allowance, (f.extra, tt))))))
+  written node_kind i r k =
+      let f = k.form in
+      form_written (before m node_kind i) a_node (r.name, (r.x, (r.y, (r.z, tt)))) (f.name, (f.x, (f.y, (f.z, tt))))
+  written element_kind i r k =
+      straight_written (before m element_kind i) r k.form (node_at r.from.0 k.known.0) (node_at r.to.0 k.known.1.0) (section_at r.section.0 k.known.1.1.0) r.shape
+  written restraint_kind i r k = restraint_written (before m restraint_kind i) r.name r.node.0 k.form.0 (node_at r.node.0 k.known.0) r.kind k.form.1
+  written case_kind i r k =
+      let f = k.form in
+      form_written (before m case_kind i) a_case (r.name, (r.gx, (r.gy, (r.gz, (r.hangers, (r.dt, (r.p, tt))))))) (f.name, (f.gx, (f.gy, (f.gz, (tt, (f.dt, (f.p, tt)))))))
+  written force_kind i r k =
+      let f = k.form in
+      form_written (before m force_kind i) a_force (r.case.0, (r.node.0, (r.fx, (r.fy, (r.fz, (r.mx, (r.my, (r.mz, tt))))))))
+      (case_at r.case.0 k.known.0, (node_at r.node.0 k.known.1.0, (f.fx, (f.fy, (f.fz, (f.mx, (f.my, (f.mz, tt))))))))

@@ -13,7 +13,7 @@ ghost use Rattle.text_words.specs.Fields.{line};
 use itoa::Buffer;
 use model_types::{
     Case, CaseId, Element, Force, Material, MaterialId, Model, NoMemory, Node, NodeId, Restraint,
-    RestraintKind, Section, SectionId,
+    RestraintKind, Section, SectionId, records_follow,
 };
 use std::alloc::Global;
 use text_words::push_line;
@@ -27,8 +27,9 @@ pub fn echo(alloc: Global, model: &Model) -> Result<Vec<u8>, NoMemory>
     ensures canonical { IfOk result (λ text. text.items ≡ text_of.canonical model.now) }
     ensures reads_back { IfOk result (λ text. AreCasesAtRest model.now → length text.items ≤ 4194304 → parsed text.items ≡ Ok model.now) }
 {
-    // Each list of a model says that the model keeps the rules.
+    // Each list of a model says that the model keeps the rules, and the law that its records can be read in order.
     let _nodes = model.nodes();
+    records_follow();
     all_lines(alloc, model)
 }
 

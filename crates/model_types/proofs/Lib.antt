@@ -1,5 +1,5 @@
-pub mod AllowedLemmas
+mod GrowthLemmas
+mod KindLemmas
 mod NameLists
 mod NumberingLemmas
-mod RefusalLemmas
-mod RuleLemmas
+mod TestLemmas

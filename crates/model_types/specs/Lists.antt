@@ -47,6 +47,10 @@ added m (record_of.Restraint r) = record m { restraints = m.restraints ++ r ∷ 
 added m (record_of.Case r) = record m { cases = m.cases ++ r ∷ [] }
 added m (record_of.Force r) = record m { forces = m.forces ++ r ∷ [] }
 
+-- the records of the kinds that aren't read yet
+abbrev pub other_records : Lists → Lists
+other_records m = record m { materials = []; sections = []; nodes = []; elements = []; restraints = []; cases = []; forces = [] }
+
 -- the names of a space, in text order
 abbrev pub names_in : Lists → Space → List (List ℕ)
 names_in m space_of.Material = map (λ r. r.name) m.materials

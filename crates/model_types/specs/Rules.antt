@@ -1,16 +1,12 @@
 -- The rules that every model keeps.
-use Rattle.std.specs.Prelude.{◌≡◌, ◌≢◌, ℕ, ℤ, ◌+◌, ◌*◌, ◌<◌, ◌≤◌, pos, ◌-ℤ◌, ◌*ℤ◌, ◌<ℤ◌, unsigned_abs, List, [], length, slice_get, Some, All, AllPairs}
+use Rattle.std.specs.Prelude.{◌≡◌, ◌≢◌, ℕ, ℤ, ◌+◌, ◌*◌, ◌<◌, ◌≤◌, pos, ◌-ℤ◌, ◌*ℤ◌, ◌<ℤ◌, unsigned_abs, IsTrue, length, slice_get, Some, All, AllPairs, Contains}
 use Rattle.model_types.specs.declared.records.Section.{Section}
-use Rattle.model_types.specs.declared.records.Material.{Material}
 use Rattle.model_types.specs.declared.records.Node.{Node}
-use Rattle.model_types.specs.declared.records.Element.{Element}
-use Rattle.model_types.specs.declared.records.Restraint.{Restraint}
-use Rattle.model_types.specs.declared.records.Case.{Case}
-use Rattle.model_types.specs.declared.records.Force.{Force}
-use Rattle.model_types.specs.declared.ids.Space.{Space}
-use Rattle.model_types.specs.Lists.{Lists, names_in}
-use Rattle.text_words.specs.Names.{IsName}
-use Rattle.model_types.specs.Ranges.{MaterialInForm, SectionInForm, NodeInForm, KindInForm, CaseInForm, ForceInForm}
+use Rattle.model_types.specs.declared.records.Record.{Record}
+use Rattle.model_types.specs.declared.records.Record.TheVariants as record_of
+use Rattle.model_types.specs.Kinds.{Kind, material_kind, section_kind, node_kind, element_kind, restraint_kind, case_kind, force_kind, Of, list, as_record, kind_of, count, most, is_keyed, key, keys, refs, AreThere, before}
+use Rattle.model_types.specs.Lists.{Lists, no_records, other_records}
+use Rattle.model_types.specs.Ranges.{InForm}
 
 -- the square of the difference of two coordinates
 abbrev pub square_difference : ℤ → ℤ → ℕ
@@ -29,87 +25,64 @@ pub record IsSpan (from to : Node) : Type 0 where
   pub apart : 0 < square_distance from to
   pub near : square_distance from to ≤ longest * longest
 
--- a section: of a material that is there, with a bore, and a wall that its allowance leaves something of
-pub record KeepsSection (materials : List Material) (s : Section) : Type 0 where
-  pub form : SectionInForm s
-  pub material : s.material.0 < length materials
+-- a section: with a bore, and a wall that its allowance leaves something of
+pub record HasSoundWall (s : Section) : Type 0 where
   pub bore : (pos 2 *ℤ s.t) <ℤ s.d
   pub sound_wall : s.allowance <ℤ s.t
 
--- an element: of a section that is there, between two nodes that are there
-pub record KeepsElement (nodes : List Node) (sections : List Section) (e : Element) : Type 0 where
-  pub name : IsName e.name
-  pub from : e.from.0 < length nodes
-  pub to : e.to.0 < length nodes
-  pub section : e.section.0 < length sections
-  pub span : (a b : Node) → slice_get nodes e.from.0 ≡ Some a → slice_get nodes e.to.0 ≡ Some b → IsSpan a b
+-- the rule of a record's own kind, over and above its form and that the records that it names are there
+abbrev pub KeepsOwn : Lists → Record → Type 0
+KeepsOwn m (record_of.Material r) = Unit {0}
+KeepsOwn m (record_of.Section r) = HasSoundWall r
+KeepsOwn m (record_of.Node r) = Unit {0}
+KeepsOwn m (record_of.Element r) = (a b : Node) → slice_get m.nodes r.from.0 ≡ Some a → slice_get m.nodes r.to.0 ≡ Some b → IsSpan a b
+KeepsOwn m (record_of.Restraint r) = Unit {0}
+KeepsOwn m (record_of.Case r) = Unit {0}
+KeepsOwn m (record_of.Force r) = Unit {0}
 
--- a restraint: of a node that is there
-pub record KeepsRestraint (nodes : List Node) (r : Restraint) : Type 0 where
-  pub name : IsName r.name
-  pub node : r.node.0 < length nodes
-  pub kind : KindInForm r.kind
+-- a record keeps its rule among others: it is in form, the records that it names are there, and it keeps its kind's own rule
+pub record Keeps (m : Lists) (r : Record) : Type 0 where
+  pub form : InForm r
+  pub known : AreThere m (refs r)
+  pub own : KeepsOwn m r
 
--- a force: of a case and on a node that are there
-pub record KeepsForce (cases : List Case) (nodes : List Node) (f : Force) : Type 0 where
-  pub form : ForceInForm f
-  pub case : f.case.0 < length cases
-  pub node : f.node.0 < length nodes
+-- each record keeps its rule among those before it, no two of a kind have one key, no kind has too many, and there is none of a kind
+-- that isn't read yet
+pub record KeepsRules (m : Lists) : Type 0 where
+  pub records : (k : Kind) (i : ℕ) (x : Of k) → slice_get (list m k) i ≡ Some x → Keeps (before m k i) (as_record k x)
+  pub distinct : (k : Kind) → IsTrue (is_keyed k) → AllPairs (λ a b. a ≢ b) (keys m k)
+  pub limits : (k : Kind) → count m k ≤ most k
+  pub other_kinds : other_records m ≡ no_records
 
--- how many records of each kind a model may have
-abbrev pub most_materials : ℕ
-most_materials = 64
+-- a record may be the next: it keeps its rule, its key is new, and there is room for it
+pub record MayBeNext (m : Lists) (r : Record) : Type 0 where
+  pub keeps : Keeps m r
+  pub new : IsTrue (is_keyed (kind_of r)) → ¬ (Contains (keys m (kind_of r)) (key r))
+  pub room : count m (kind_of r) < most (kind_of r)
 
-abbrev pub most_sections : ℕ
-most_sections = 64
-
-abbrev pub most_nodes : ℕ
-most_nodes = 2000
-
-abbrev pub most_elements : ℕ
-most_elements = 4000
-
-abbrev pub most_restraints : ℕ
-most_restraints = 2000
-
-abbrev pub most_cases : ℕ
-most_cases = 32
-
-abbrev pub most_forces : ℕ
-most_forces = 4000
+-- each record of a kind keeps its rule among all
+pub record AllKeep (m : Lists) : Type 0 where
+  pub materials : All (λ r. Keeps m (record_of.Material r)) m.materials
+  pub sections : All (λ r. Keeps m (record_of.Section r)) m.sections
+  pub nodes : All (λ r. Keeps m (record_of.Node r)) m.nodes
+  pub elements : All (λ r. Keeps m (record_of.Element r)) m.elements
+  pub restraints : All (λ r. Keeps m (record_of.Restraint r)) m.restraints
+  pub cases : All (λ r. Keeps m (record_of.Case r)) m.cases
+  pub forces : All (λ r. Keeps m (record_of.Force r)) m.forces
 
 -- no kind has more records than it may
 pub record KeepsLimits (m : Lists) : Type 0 where
-  pub materials : length m.materials ≤ most_materials
-  pub sections : length m.sections ≤ most_sections
-  pub nodes : length m.nodes ≤ most_nodes
-  pub elements : length m.elements ≤ most_elements
-  pub restraints : length m.restraints ≤ most_restraints
-  pub cases : length m.cases ≤ most_cases
-  pub forces : length m.forces ≤ most_forces
+  pub materials : length m.materials ≤ most material_kind
+  pub sections : length m.sections ≤ most section_kind
+  pub nodes : length m.nodes ≤ most node_kind
+  pub elements : length m.elements ≤ most element_kind
+  pub restraints : length m.restraints ≤ most restraint_kind
+  pub cases : length m.cases ≤ most case_kind
+  pub forces : length m.forces ≤ most force_kind
 
--- no record of a kind that isn't read yet
-pub record HasNoOtherKinds (m : Lists) : Type 0 where
-  pub tees : m.tees ≡ []
-  pub temps : m.temps ≡ []
-  pub pressures : m.pressures ≡ []
-  pub moves : m.moves ≡ []
-  pub checks : m.checks ≡ []
-
--- each record keeps its rule, no name stands twice in a space, and no kind has too many
-pub record KeepsRules (m : Lists) : Type 0 where
-  pub materials : All MaterialInForm m.materials
-  pub sections : All (KeepsSection m.materials) m.sections
-  pub nodes : All NodeInForm m.nodes
-  pub elements : All (KeepsElement m.nodes m.sections) m.elements
-  pub restraints : All (KeepsRestraint m.nodes) m.restraints
-  pub cases : All CaseInForm m.cases
-  pub forces : All (KeepsForce m.cases m.nodes) m.forces
-  pub names : (space : Space) → AllPairs (λ a b. a ≢ b) (names_in m space)
-  pub limits : KeepsLimits m
-  pub other_kinds : HasNoOtherKinds m
-
--- a model keeps the rules and has a node
+-- a model keeps the rules and has a node, and so each record keeps its rule among all, and no list is too long
 pub record IsModel (m : Lists) : Type 0 where
   pub rules : KeepsRules m
   pub some_node : 0 < length m.nodes
+  pub kept : AllKeep m
+  pub few : KeepsLimits m

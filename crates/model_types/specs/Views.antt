@@ -1,10 +1,10 @@
--- The lists that a draft's and a model's fields are seen as.
+-- The lists that the fields of a draft's lists and of a model are seen as.
 use Rattle.model_types.specs.Lists.{Lists}
-use Rattle.model_types.specs.declared.drafts.Draft.TheInside as draft
+use Rattle.model_types.specs.declared.record_lists.RecordLists.TheInside as lists
 use Rattle.model_types.specs.declared.models.Model.TheInside as model
 
-abbrev pub draft_lists : draft.Inside → Lists
-draft_lists d = record {
+abbrev pub record_lists : lists.Inside → Lists
+record_lists d = record {
   materials = d.materials;
   sections = d.sections;
   nodes = d.nodes;

@@ -20,7 +20,7 @@ pub enum Cause {
     Pivot { node: NodeId, freedom: u32 },
     /// The node's columns of the factor leave their limits.
     WidthFactor(NodeId),
-    /// The row's definiteness inequality fails at every shift.
+    /// The row's definiteness inequality fails at the last shift; no earlier shift passed.
     Margin { node: NodeId, freedom: u32 },
     /// A load leaves its limits.
     WidthLoad { node: NodeId, freedom: u32 },

@@ -8,6 +8,7 @@ pub mod answers;
 pub mod drafts;
 pub mod faults;
 pub mod ids;
+mod record_lists;
 pub mod models;
 pub mod records;
 mod tables;
@@ -16,7 +17,7 @@ pub use answers::{Bounds, CaseAnswer, Cause, CheckAnswer, StationAnswer};
 pub use drafts::Draft;
 pub use faults::{AddFault, WholeFault};
 pub use ids::{CaseId, CheckId, ElementId, MaterialId, NodeId, RestraintId, SectionId, Space};
-pub use models::Model;
+pub use models::{Model, records_follow};
 pub use records::{
     Case, Check, CheckKind, Element, Force, Material, Move, Node, Pressure, Record, Restraint,
     RestraintKind, Section, Shape, Tee, TeeKind, Temp,

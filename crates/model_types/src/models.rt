@@ -1,6 +1,7 @@
 //! The model of a piping system.
 ghost use Rattle.std.specs.Prelude.{◌≡◌};
 ghost use Rattle.model_types.specs.Rules.{IsModel};
+ghost use Rattle.model_types.specs.Refusals.{RecordsFollow};
 
 use crate::records::{
     Case, Check, Element, Force, Material, Move, Node, Pressure, Restraint, Section, Tee, Temp,
@@ -132,4 +133,10 @@ impl Model {
     {
         self.checks.as_slice()
     }
+}
+
+/// The law of reading in order: a model's records, taken by kind, are each refused by no number against those before them.
+pub fn records_follow()
+    ensures { RecordsFollow }
+{
 }

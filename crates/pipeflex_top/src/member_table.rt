@@ -2,7 +2,8 @@
 
 ghost use Rattle.std.specs.Prelude.{◌≡◌, ◌≤◌, ◌++◌, length, OnOk, IfOk};
 ghost use Rattle.std.specs.List.{flat_map};
-ghost use Rattle.model_types.specs.Rules.{KeepsElement};
+ghost use Rattle.model_types.specs.Rules.{Keeps};
+ghost use Rattle.model_types.specs.declared.records.Record.TheVariants as record_of;
 ghost use Rattle.structure.specs.Enclosure.{EnclosesElement};
 ghost use Rattle.pipeflex_top.specs.Enclosure.{PrintsEnclosures};
 ghost use Rattle.pipeflex_top.specs.MemberTable.{kappa_words, kappa_lines, element_text, table_of};
@@ -40,7 +41,7 @@ fn push_elements(out: &mut Vec<u8>, model: &Model) -> Result<(), NoMemory>
 }
 
 fn push_element(out: &mut Vec<u8>, model: &Model, element: &Element) -> Result<(), NoMemory>
-    requires { KeepsElement model.now.nodes model.now.sections element.now }
+    requires { Keeps model.now (record_of.Element element.now) }
     ensures bytes { OnOk result (out.new.items ≡ out.old.items ++ element_text model.now element.now) }
     ensures encloses { EnclosesElement model.now element.now }
 {

@@ -8,8 +8,8 @@ use Rattle.member_set.specs.declared.members.Built.{Built}
 use Rattle.member_set.specs.Members.{no_member}
 use Rattle.model_types.specs.Lists.{Lists}
 use Rattle.model_types.specs.Ranges.{IsStiffness, KindInForm}
-use Rattle.model_types.specs.Rules.{IsModel, KeepsRestraint}
-use Rattle.model_types.specs.declared.records.Node.{Node}
+use Rattle.model_types.specs.declared.records.Record.TheVariants as record_of
+use Rattle.model_types.specs.Rules.{IsModel, Keeps}
 use Rattle.model_types.specs.declared.records.Restraint.{Restraint}
 use Rattle.model_types.specs.declared.records.RestraintKind.{RestraintKind}
 use Rattle.model_types.specs.declared.records.RestraintKind.TheVariants.{Anchor, Linear, Twist}
@@ -41,13 +41,13 @@ kind-sound nodes node (Anchor kt kr) inside form =
 kind-sound nodes node (Linear dx dy dz k) inside form = All-nil (IsSound nodes)
 kind-sound nodes node (Twist dx dy dz k) inside form = All-nil (IsSound nodes)
 
-restraints-sound : (nodes : List Node) (rs : List Restraint) → All (KeepsRestraint nodes) rs → All (IsSound (length nodes)) (flat_map restraint_members rs)
-restraints-sound nodes [] keep = All-nil (IsSound (length nodes))
-restraints-sound nodes (r ∷ rs) keep =
-    let first : KeepsRestraint nodes r = All-head (KeepsRestraint nodes) r rs keep in
-    All-append (IsSound (length nodes)) (restraint_members r) (flat_map restraint_members rs)
-    (kind-sound (length nodes) r.node.0 r.kind first.node first.kind)
-    (restraints-sound nodes rs (All-tail (KeepsRestraint nodes) r rs keep))
+restraints-sound : (m : Lists) (rs : List Restraint) → All (λ r. Keeps m (record_of.Restraint r)) rs → All (IsSound (length m.nodes)) (flat_map restraint_members rs)
+restraints-sound m [] keep = All-nil (IsSound (length m.nodes))
+restraints-sound m (r ∷ rs) keep =
+    let first : Keeps m (record_of.Restraint r) = All-head (λ r. Keeps m (record_of.Restraint r)) r rs keep in
+    All-append (IsSound (length m.nodes)) (restraint_members r) (flat_map restraint_members rs)
+    (kind-sound (length m.nodes) r.node.0 r.kind first.known.0 first.form.1)
+    (restraints-sound m rs (All-tail (λ r. Keeps m (record_of.Restraint r)) r rs keep))
 
 kind-few : (node : ℕ) (kind : RestraintKind) → length (kind_members node kind) ≤ 6
 kind-few node (Anchor kt kr) = omega arith
@@ -67,13 +67,13 @@ model_members-wide m number is = rw is
 pub AreMembers-from : (m : Lists) (elements members : List Member) → IsModel m → element_members m (length m.elements) ≡ Ok elements → All (IsSound (length m.nodes)) elements → length elements ≤ 8 * length m.elements → members ≡ elements ++ flat_map restraint_members m.restraints → AreMembers m members
 unfolding model_members
 AreMembers-from m elements members model is sound few whole =
-    let limits = model.rules.limits in
+    let limits = model.few in
     let most_elements = limits.elements in
     let most_restraints = limits.restraints in
     subst (AreMembers m) (sym whole)
     record {
       value = rw is;
-      sound = All-append (IsSound (length m.nodes)) elements (flat_map restraint_members m.restraints) sound (restraints-sound m.nodes m.restraints model.rules.restraints);
+      sound = All-append (IsSound (length m.nodes)) elements (flat_map restraint_members m.restraints) sound (restraints-sound m m.restraints model.kept.restraints);
       few = omega (arith, length-append elements (flat_map restraint_members m.restraints), restraints-few m.restraints);
     }
 
@@ -84,7 +84,7 @@ nodes_in_range m members are = λ k d inside. ((are.sound k d inside).first_node
 
 pub IsStructureOf-from : (m : Lists) (b : Built) → IsModel m → AreMembers m b.members → length b.at ≡ length m.nodes → ListsTouching b.members (length b.members) b.at → b.unilateral ≡ [] → b.stations ≡ [] → IsStructureOf m b
 IsStructureOf-from m b model are count lists linear no_stations =
-    let most_nodes = model.rules.limits.nodes in
+    let most_nodes = model.few.nodes in
     record {
       members = are.value;
       nodes = count;

@@ -13,7 +13,8 @@ use Rattle.model_types.specs.declared.records.Element.{Element}
 use Rattle.model_types.specs.declared.records.Material.{Material}
 use Rattle.model_types.specs.declared.records.Node.{Node}
 use Rattle.model_types.specs.declared.records.Section.{Section}
-use Rattle.model_types.specs.Rules.{IsModel, KeepsElement}
+use Rattle.model_types.specs.declared.records.Record.TheVariants as record_of
+use Rattle.model_types.specs.Rules.{IsModel, Keeps}
 use Rattle.member_pairs.specs.Lengths.{length_of}
 use Rattle.member_pairs.specs.Pairs.{IsMemberOf}
 use Rattle.member_pairs.specs.Tubes.{tube_of}
@@ -64,8 +65,8 @@ members-read m elements n e r same inside is value =
 
 pub members-sound : (m : Lists) → IsModel m → (n : ℕ) → n < length m.elements → (more : List Member) → All (IsMemberOf (element_at m n)) more → All (IsSound (length m.nodes)) more
 members-sound m model n inside more own =
-    let keeps : KeepsElement m.nodes m.sections (element_at m n) = model.rules.elements n no_element inside in
-    λ k d here. sound (element_at m n) (length m.nodes) keeps.from keeps.to _ (own k d here)
+    let keeps : Keeps m (record_of.Element (element_at m n)) = model.kept.elements n no_element inside in
+    λ k d here. sound (element_at m n) (length m.nodes) keeps.known.0 keeps.known.1.0 _ (own k d here)
 
 -- ---- how many members a straight has
 

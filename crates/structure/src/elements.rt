@@ -1,7 +1,8 @@
 ghost use Rattle.std.specs.Prelude.{◌≡◌, ◌*◌, ◌<◌, ◌≤◌, length, All, IfOk, Ok, Err};
 ghost use Rattle.std.specs.List.{slice_index_or};
 ghost use Rattle.model_types.specs.Ranges.{NodeInForm, MaterialInForm};
-ghost use Rattle.model_types.specs.Rules.{KeepsElement};
+ghost use Rattle.model_types.specs.Rules.{Keeps};
+ghost use Rattle.model_types.specs.declared.records.Record.TheVariants as record_of;
 ghost use Rattle.section_data.specs.Tube.{IsTube};
 ghost use Rattle.member_pairs.specs.Pairs.{IsMemberOf};
 ghost use Rattle.structure.specs.Elements.{member_count, members_of, material_of, no_node, no_section};
@@ -19,7 +20,7 @@ use std::alloc::Global;
 
 /// The members of an element of a model: `Wide` where they leave their limits.
 pub fn element_members(model: &Model, element: &Element) -> Result<ElementMembers, Wide>
-    requires { KeepsElement model.now.nodes model.now.sections element.now }
+    requires { Keeps model.now (record_of.Element element.now) }
     ensures value { result ≡ members_of model.now element.now }
     ensures count { IfOk result (λ members. length members ≡ member_count element.now.shape) }
     ensures few { IfOk result (λ members. length members ≤ 8) }

@@ -24,9 +24,9 @@ plus-requires-clause-room c =
     let is : f ≡ get_or c.args.m.now.forces c.args.number no_force = ap (λ (fs : List Force). get_or fs c.args.number no_force) c.forces.ensures.records in
     let few = few_forces c.args.m.now c.args.number c.forces.ensures.model c.requires.in_range in
     let kept = force_kept c.args.m.now c.args.number f c.forces.ensures.model c.requires.in_range is in
-    let inside : row < length c.loop-freedom.loads = omega (arith, kept.node, c.loop-freedom.invariant.one_each, c.loop-freedom-test.true) in
+    let inside : row < length c.loop-freedom.loads = omega (arith, kept.known.1.0, c.loop-freedom.invariant.one_each, c.loop-freedom-test.true) in
     let read = get_or_read_under c.loop-freedom.loads row (length c.loop-freedom.loads) c.index-loads-row.result nothing c.index-loads-row.is inside refl in
-    rw read (adding-room c.args.m.now c.args.case.0 c.args.number i f.node.0 c.loop-freedom.loads few kept.node c.loop-freedom-test.true c.loop-freedom.invariant)
+    rw read (adding-room c.args.m.now c.args.case.0 c.args.number i f.node.0 c.loop-freedom.loads few kept.known.1.0 c.loop-freedom-test.true c.loop-freedom.invariant)
 
 pub loop-freedom-preserved : goal.loop-freedom-preserved
 loop-freedom-preserved c =
@@ -35,7 +35,7 @@ loop-freedom-preserved c =
     let row = 6 * f.node.0 + i in
     let is : f ≡ get_or c.args.m.now.forces c.args.number no_force = ap (λ (fs : List Force). get_or fs c.args.number no_force) c.forces.ensures.records in
     let kept = force_kept c.args.m.now c.args.number f c.forces.ensures.model c.requires.in_range is in
-    let inside : row < length c.loop-freedom.loads = omega (arith, kept.node, c.loop-freedom.invariant.one_each, c.loop-freedom-test.true) in
+    let inside : row < length c.loop-freedom.loads = omega (arith, kept.known.1.0, c.loop-freedom.invariant.one_each, c.loop-freedom-test.true) in
     let read = get_or_read_under c.loop-freedom.loads row (length c.loop-freedom.loads) c.index-loads-row.result nothing c.index-loads-row.is inside refl in
     let fits : FitsSigned w64 c.part.result = search rules in
     let here : IsMore c.index-loads-row.result c.plus.result c.part.result =
@@ -47,7 +47,7 @@ loop-freedom-preserved c =
     let more : IsMore (load_of c.loop-freedom.loads row) c.plus.result (part_of f i) =
     subst (λ (z : ℤ). IsMore (load_of c.loop-freedom.loads row) c.plus.result z) c.part.ensures.value
     (subst (λ (e : Ends). IsMore e c.plus.result c.part.result) read here) in
-    adding-next c.args.m.now c.args.case.0 c.args.number i f c.loop-freedom.loads c.plus.result is c.if-force-case.false kept.node c.loop-freedom-test.true more c.loop-freedom.invariant
+    adding-next c.args.m.now c.args.case.0 c.args.number i f c.loop-freedom.loads c.plus.result is c.if-force-case.false kept.known.1.0 c.loop-freedom-test.true more c.loop-freedom.invariant
 
 pub returns : goal.returns
 returns c =

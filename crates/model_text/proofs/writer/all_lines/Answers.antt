@@ -1,4 +1,4 @@
-use Rattle.std.proofs.Common.{[], ◌∷◌, ◌++◌, codes, ap, ◌∙◌}
+use Rattle.std.proofs.Common.{[], ◌∷◌, ◌++◌, codes, ap, ◌∙◌, append_assoc, append-nil}
 use Rattle.text_words.specs.Fields.{line}
 use Rattle.model_types.specs.declared.records.Record.TheVariants as record_of
 use Rattle.model_text.specs.Canonical.{canonical}
@@ -17,4 +17,5 @@ returns c =
     let elements = append_kind m record_of.Element m.elements c.elements.ensures.records nodes c.in_ok-put_all-4.ensures in
     let restraints = append_kind m record_of.Restraint m.restraints c.restraints.ensures.records elements c.in_ok-put_all-5.ensures in
     let cases = append_kind m record_of.Case m.cases c.cases.ensures.records restraints c.in_ok-put_all-6.ensures in
-    append_kind m record_of.Force m.forces c.forces.ensures.records cases c.in_ok-put_all-7.ensures
+    let forces = append_kind m record_of.Force m.forces c.forces.ensures.records cases c.in_ok-put_all-7.ensures in
+    forces ∙ simp (append_assoc, append-nil)

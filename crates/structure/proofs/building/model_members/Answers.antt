@@ -11,7 +11,7 @@ returns-in_err-members-clause-wide c = λ id is.
     model_members-wide c.args.m.now id.0 (c.all_element_members.ensures.wide id (rw fault at c.in_err-members.was))
 
 pub push_restraints-requires-clause-form : goal.push_restraints-requires-clause-form
-push_restraints-requires-clause-form c = rw c.restraints.ensures.records (λ k d inside. (c.restraints.ensures.model.rules.restraints k d inside).kind)
+push_restraints-requires-clause-form c = rw c.restraints.ensures.records (λ k d inside. (c.restraints.ensures.model.kept.restraints k d inside).form.1)
 
 pub returns-clause-members : goal.returns-clause-members
 returns-clause-members c =

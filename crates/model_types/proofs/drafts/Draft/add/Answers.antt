@@ -1,21 +1,30 @@
-use Rattle.std.proofs.Common.{rules, ◌≡◌, Some, None, refl, sym, subst}
+use Rattle.std.proofs.Common.{◌≡◌, Some, None, sym, ap, subst, ◌∙◌}
 use Rattle.model_types.specs.Refusals.{refusal}
-use Rattle.model_types.specs.Rules.{KeepsRules}
-use Rattle.model_types.proofs.AllowedLemmas.{refusal-KeepsRules}
-use Rattle.model_types.proofs.RuleLemmas.{KeepsRules-accepted}
+use Rattle.model_types.specs.Rules.{KeepsRules, MayBeNext}
+use Rattle.model_types.proofs.GrowthLemmas.{KeepsRules-added, MayBeNext-added, nodes_in_form}
+use Rattle.model_types.proofs.TestLemmas.{may_be_next, refused_none}
 use Rattle.model_types.proofs.drafts.Draft.add.Goals as goal
 
-pub returns-clause-rules : goal.returns-clause-rules
-returns-clause-rules c =
-    let accepted : refusal c.args.self.now c.args.candidate ≡ None = search rules in
-    subst KeepsRules (sym c.in_ok-append.ensures.ok)
-    (KeepsRules-accepted c.args.self.now c.args.self.now c.args.candidate c.args.candidate refl refl c.refusal.ensures.rules c.requires accepted)
+pub refusal-requires-clause-nodes : goal.refusal-requires-clause-nodes
+refusal-requires-clause-nodes c = nodes_in_form c.self.inside.lists c.self.invariant
 
 pub returns-in-Some-clause-needed : goal.returns-in-Some-clause-needed
 returns-in-Some-clause-needed c = λ number e k.
-    let found : Some c.in-Some.number ≡ refusal c.args.self.now c.args.candidate = c.in-Some.ensures.number in
-    let none : refusal c.args.self.now c.args.candidate ≡ None = refusal-KeepsRules c.args.self.now c.args.candidate k in
+    let found : Some c.in-Some.number ≡ refusal c.self.inside.lists c.args.candidate = c.in-Some.ensures in
+    let same = ap (λ m. refusal m c.args.candidate) c.self.view_is in
+    let none : refusal c.args.self.now c.args.candidate ≡ None = refused_none c.args.self.now c.args.candidate (MayBeNext-added c.args.self.now c.args.candidate k) in
     cc
 
-pub returns-in-Some-clause-unchanged : goal.returns-in-Some-clause-unchanged
-returns-in-Some-clause-unchanged c = refl
+pub invariant_of-self-2 : goal.invariant_of-self-2
+invariant_of-self-2 c =
+    let next = may_be_next c.self.inside.lists c.args.candidate c.requires (sym c.refusal.ensures ∙ c.in_default.is) in
+    subst KeepsRules (sym c.in_ok-append.ensures.ok) (KeepsRules-added c.self.inside.lists c.args.candidate c.self.invariant next)
+
+pub returns-clause-rules : goal.returns-clause-rules
+returns-clause-rules c =
+    let next = may_be_next c.self.inside.lists c.args.candidate c.requires (sym c.refusal.ensures ∙ c.in_default.is) in
+    subst KeepsRules (sym c.in_ok-append.ensures.ok) (KeepsRules-added c.self.inside.lists c.args.candidate c.self.invariant next)
+
+pub returns-clause-next : goal.returns-clause-next
+returns-clause-next c =
+    subst (λ m. MayBeNext m c.args.candidate) c.self.view_is (may_be_next c.self.inside.lists c.args.candidate c.requires (sym c.refusal.ensures ∙ c.in_default.is))

@@ -1,7 +1,7 @@
 use Rattle.std.proofs.Common.{arith, ◌≤◌}
 use Rattle.std.proofs.lemmas.Int.{ints}
 use Rattle.std.proofs.lemmas.Nat.{mul-le}
-use Rattle.model_types.proofs.drafts.square_difference.Goals as goal
+use Rattle.model_types.proofs.record_lists.square_difference.Goals as goal
 
 pub returns-clause-small : goal.returns-clause-small
 returns-clause-small c =

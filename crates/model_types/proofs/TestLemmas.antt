@@ -1,0 +1,127 @@
+-- No number refuses a record exactly where it may be the next.
+use Rattle.std.proofs.Common.{◌≡◌, ℕ, ◌*◌, ◌<◌, ◌==◌, Bool, true, false, true≢false, ◌||◌, ◌&&◌, nat_lt, nat_le, int_le, ℤ, pos, ◌*ℤ◌, ◌<ℤ◌, IsTrue, List, [], ◌∷◌, ◌++◌, Option, Some, None, is_some, position, slice_get, Contains, nat_eq, ◌↔◌, if◌then◌else◌, refl, sym, ap, ◌∙◌, arith}
+use Rattle.std.proofs.lemmas.Bool.{le-ltb, lt-leb, leb-false, ltb-false}
+use Rattle.std.proofs.lemmas.Bool.Decides.{nat_tests}
+use Rattle.std.proofs.lemmas.Int.{ints}
+use Rattle.std.specs.Cmp.Lexicographic.{pointwise}
+use Rattle.std.specs.Option.{option_map_or}
+use Rattle.model_types.specs.declared.records.Node.{Node}
+use Rattle.model_types.specs.declared.records.Element.{Element}
+use Rattle.model_types.specs.declared.records.Record.{Record}
+use Rattle.model_types.specs.declared.records.Record.TheVariants as record_of
+use Rattle.model_types.specs.Kinds.{kind_of, count, is_keyed, key, keys, Ref, refs, AreThere}
+use Rattle.model_types.specs.Lists.{Lists}
+use Rattle.model_types.specs.Ranges.{InForm}
+use Rattle.model_types.specs.Refusals.{Test, test, first_refusal, AllFail, lacks, has_no_length, is_too_long, is_too_many, square_between, square_length, own_tests, tests, refusal}
+use Rattle.model_types.specs.Rules.{KeepsOwn, MayBeNext, IsSpan, square_distance, longest}
+use Rattle.model_types.proofs.NameLists.{position-Contains}
+use Rattle.model_types.proofs.GrowthLemmas.{absent_key}
+
+-- ---- lists of tests
+
+passed : (b : Bool) (n : ℕ) (rest : Option ℕ) → (if b then Some n else rest) ≡ None → (b ≡ false) × (rest ≡ None)
+passed true n rest h = cc
+passed false n rest h = (refl, h)
+
+skipped : (b : Bool) (n : ℕ) (rest : Option ℕ) → b ≡ false → rest ≡ None → (if b then Some n else rest) ≡ None
+skipped true n rest fails none = absurd (true≢false fails)
+skipped false n rest fails none = none
+
+-- none refuses exactly where all fail
+pub first_refusal-None : (ts : List Test) → (first_refusal ts ≡ None) ↔ AllFail ts
+first_refusal-None [] = ((λ none. tt), (λ fail. refl))
+first_refusal-None (t ∷ ts) =
+    ((λ none. let parts = passed t.holds t.number (first_refusal ts) none in (parts.0, (first_refusal-None ts).0 parts.1)), (λ fail. skipped t.holds t.number (first_refusal ts) fail.0 ((first_refusal-None ts).1 fail.1)))
+
+AllFail-more : (ts us : List Test) → AllFail (ts ++ us) ↔ (AllFail ts × AllFail us)
+AllFail-more [] us = ((λ fail. (tt, fail)), (λ fail. fail.1))
+AllFail-more (t ∷ ts) us =
+    ((λ fail. let rest = (AllFail-more ts us).0 fail.1 in ((fail.0, rest.0), rest.1)), (λ fail. (fail.0.0, (AllFail-more ts us).1 (fail.0.1, fail.1))))
+
+-- ---- tests and the facts that they decide
+
+not_zero : (n : ℕ) → 0 < n → (n == 0) ≡ false
+not_zero n h = grind (arith, nat_tests)
+
+positive : (n : ℕ) → (n == 0) ≡ false → 0 < n
+positive n h = grind (arith, nat_tests)
+
+not_int_at_most : (a b : ℤ) → b <ℤ a → int_le a b ≡ false
+not_int_at_most a b h = grind (arith, ints)
+
+int_below : (a b : ℤ) → int_le a b ≡ false → b <ℤ a
+int_below a b h = grind (arith, ints)
+
+both : (a b : Bool) → a ≡ false → b ≡ false → (a || b) ≡ false
+both a b p q = ap (λ x. x || b) p ∙ q
+
+neither : (a b : Bool) → (a || b) ≡ false → (a ≡ false) × (b ≡ false)
+neither true b h = absurd (true≢false h)
+neither false b h = (refl, h)
+
+-- a test of an element's square length fails where it fails at each two nodes that a span may have
+span_test : (test : ℕ → Bool) (nodes : List Node) (e : Element) → ((a b : Node) → slice_get nodes e.from.0 ≡ Some a → slice_get nodes e.to.0 ≡ Some b → test (square_distance a b) ≡ false)
+    → option_map_or test (square_length nodes e) false ≡ false
+span_test test nodes e fails = by (slice_get nodes e.from.0) (slice_get nodes e.to.0) refl refl
+  where
+    by : (a b : Option Node) → slice_get nodes e.from.0 ≡ a → slice_get nodes e.to.0 ≡ b → option_map_or test (square_between a b) false ≡ false
+    by (Some a) (Some b) at_from at_to = fails a b at_from at_to
+    by (Some a) None at_from at_to = refl
+    by None b at_from at_to = refl
+
+IsSpan-from_tests : (nodes : List Node) (e : Element) (a b : Node) → has_no_length nodes e ≡ false → is_too_long nodes e ≡ false → slice_get nodes e.from.0 ≡ Some a → slice_get nodes e.to.0 ≡ Some b → IsSpan a b
+IsSpan-from_tests nodes e a b apart near at_from at_to =
+    let square : square_length nodes e ≡ Some (square_distance a b) = ap (λ o. square_between o (slice_get nodes e.to.0)) at_from ∙ ap (square_between (Some a)) at_to in
+    let not_none : (square_distance a b == 0) ≡ false = sym (ap (λ o. option_map_or (λ n. n == 0) o false) square) ∙ apart in
+    let not_more : nat_lt (longest * longest) (square_distance a b) ≡ false = sym (ap (λ o. option_map_or (nat_lt (longest * longest)) o false) square) ∙ near in
+    record { apart = positive _ not_none; near = ltb-false _ _ not_more }
+
+-- the tests of a kind decide its own rule
+own-fail : (m : Lists) (r : Record) → AllFail (own_tests m r) ↔ KeepsOwn m r
+own-fail m (record_of.Material r) = ((λ fail. tt), (λ own. tt))
+own-fail m (record_of.Section r) =
+    ((λ fail. let walls = neither (int_le r.d (pos 2 *ℤ r.t)) (int_le r.t r.allowance) fail.0 in record { bore = int_below _ _ walls.0; sound_wall = int_below _ _ walls.1 }),
+    (λ own. (both _ _ (not_int_at_most _ _ own.bore) (not_int_at_most _ _ own.sound_wall), tt)))
+own-fail m (record_of.Node r) = ((λ fail. tt), (λ own. tt))
+own-fail m (record_of.Element r) =
+    ((λ fail a b at_from at_to. IsSpan-from_tests m.nodes r a b fail.0 fail.1.0 at_from at_to),
+    (λ own. (span_test (λ n. n == 0) m.nodes r (λ a b at_from at_to. not_zero _ (own a b at_from at_to).apart),
+    (span_test (nat_lt (longest * longest)) m.nodes r (λ a b at_from at_to. le-ltb _ _ (own a b at_from at_to).near), tt))))
+own-fail m (record_of.Restraint r) = ((λ fail. tt), (λ own. tt))
+own-fail m (record_of.Case r) = ((λ fail. tt), (λ own. tt))
+own-fail m (record_of.Force r) = ((λ fail. tt), (λ own. tt))
+
+known-fail : (m : Lists) (rs : List Ref) → (lacks m rs ≡ false) ↔ AreThere m rs
+known-fail m [] = ((λ fail. tt), (λ known. refl))
+known-fail m (ref ∷ rest) =
+    ((λ fail. let parts = neither (nat_le (count m ref.kind) ref.number) (lacks m rest) fail in (leb-false _ _ parts.0, (known-fail m rest).0 parts.1)),
+    (λ known. both _ _ (lt-leb _ _ known.0) ((known-fail m rest).1 known.1)))
+
+new-fail : (keyed : Bool) (names : List (List ℕ)) (name : List ℕ) → ((keyed && is_some (position (pointwise nat_eq name) names)) ≡ false) ↔ (IsTrue keyed → ¬ (Contains names name))
+new-fail true names name = ((λ fail keyed. by (position (pointwise nat_eq name) names) refl fail), (λ new. absent_key names name (new refl)))
+  where
+    by : (o : Option ℕ) → o ≡ position (pointwise nat_eq name) names → is_some o ≡ false → ¬ (Contains names name)
+    by None e fail = (position-Contains names name None e).0 refl
+    by (Some i) e fail = absurd (true≢false fail)
+new-fail false names name = ((λ fail keyed. absurd (true≢false (sym keyed))), (λ new. refl))
+
+-- ---- the law
+
+module _ (m : Lists) (r : Record) where
+  refused_by_none : InForm r → AllFail (tests m r) → MayBeNext m r
+  refused_by_none form fail =
+      let rest = (AllFail-more (own_tests m r) (test 14 (is_too_many m r) ∷ [])).0 fail.1.1 in
+      record {
+        keeps = record { form = form; known = (known-fail m (refs r)).0 fail.1.0; own = (own-fail m r).0 rest.0 };
+        new = (new-fail (is_keyed (kind_of r)) (keys m (kind_of r)) (key r)).0 fail.0;
+        room = leb-false _ _ rest.1.0;
+      }
+
+  pub refused_none : MayBeNext m r → refusal m r ≡ None
+  refused_none next =
+      (first_refusal-None (tests m r)).1
+      ((new-fail (is_keyed (kind_of r)) (keys m (kind_of r)) (key r)).1 next.new,
+      ((known-fail m (refs r)).1 next.keeps.known, (AllFail-more (own_tests m r) (test 14 (is_too_many m r) ∷ [])).1 ((own-fail m r).1 next.keeps.own, (lt-leb _ _ next.room, tt))))
+
+  pub may_be_next : InForm r → refusal m r ≡ None → MayBeNext m r
+  may_be_next form none = refused_by_none form ((first_refusal-None (tests m r)).0 none)

@@ -1,0 +1,180 @@
+-- The kinds of records: the lists of a model by kind, what tells the records of a kind apart, which other records they name, and how
+-- many there may be.
+use Rattle.std.specs.Prelude.{◌≡◌, ℕ, ◌<◌, ◌==◌, nat_lt, Bool, true, false, List, [], ◌∷◌, map, take, length, slice_get, Some, if◌then◌else◌}
+use Rattle.model_types.specs.declared.records.Material.{Material}
+use Rattle.model_types.specs.declared.records.Section.{Section}
+use Rattle.model_types.specs.declared.records.Node.{Node}
+use Rattle.model_types.specs.declared.records.Element.{Element}
+use Rattle.model_types.specs.declared.records.Restraint.{Restraint}
+use Rattle.model_types.specs.declared.records.Case.{Case}
+use Rattle.model_types.specs.declared.records.Force.{Force}
+use Rattle.model_types.specs.declared.records.Record.{Record}
+use Rattle.model_types.specs.declared.records.Record.TheVariants as record_of
+use Rattle.model_types.specs.Lists.{Lists, no_records}
+
+-- the kinds, in the order of the canonical text
+pub data Kind : Type 0 where
+  material_kind : Kind
+  section_kind : Kind
+  node_kind : Kind
+  element_kind : Kind
+  restraint_kind : Kind
+  case_kind : Kind
+  force_kind : Kind
+
+abbrev pub kinds : List Kind
+kinds = material_kind ∷ section_kind ∷ node_kind ∷ element_kind ∷ restraint_kind ∷ case_kind ∷ force_kind ∷ []
+
+-- the place of a kind in that order
+abbrev pub place : Kind → ℕ
+place material_kind = 0
+place section_kind = 1
+place node_kind = 2
+place element_kind = 3
+place restraint_kind = 4
+place case_kind = 5
+place force_kind = 6
+
+-- the records of a kind
+abbrev pub Of : Kind → Type 0
+Of material_kind = Material
+Of section_kind = Section
+Of node_kind = Node
+Of element_kind = Element
+Of restraint_kind = Restraint
+Of case_kind = Case
+Of force_kind = Force
+
+abbrev pub list : Lists → (k : Kind) → List (Of k)
+list m material_kind = m.materials
+list m section_kind = m.sections
+list m node_kind = m.nodes
+list m element_kind = m.elements
+list m restraint_kind = m.restraints
+list m case_kind = m.cases
+list m force_kind = m.forces
+
+abbrev pub as_record : (k : Kind) → Of k → Record
+as_record material_kind r = record_of.Material r
+as_record section_kind r = record_of.Section r
+as_record node_kind r = record_of.Node r
+as_record element_kind r = record_of.Element r
+as_record restraint_kind r = record_of.Restraint r
+as_record case_kind r = record_of.Case r
+as_record force_kind r = record_of.Force r
+
+abbrev pub kind_of : Record → Kind
+kind_of (record_of.Material r) = material_kind
+kind_of (record_of.Section r) = section_kind
+kind_of (record_of.Node r) = node_kind
+kind_of (record_of.Element r) = element_kind
+kind_of (record_of.Restraint r) = restraint_kind
+kind_of (record_of.Case r) = case_kind
+kind_of (record_of.Force r) = force_kind
+
+abbrev pub value_of : (r : Record) → Of (kind_of r)
+value_of (record_of.Material r) = r
+value_of (record_of.Section r) = r
+value_of (record_of.Node r) = r
+value_of (record_of.Element r) = r
+value_of (record_of.Restraint r) = r
+value_of (record_of.Case r) = r
+value_of (record_of.Force r) = r
+
+-- how many records of a kind there are, and how many there may be
+abbrev pub count : Lists → Kind → ℕ
+count m material_kind = length m.materials
+count m section_kind = length m.sections
+count m node_kind = length m.nodes
+count m element_kind = length m.elements
+count m restraint_kind = length m.restraints
+count m case_kind = length m.cases
+count m force_kind = length m.forces
+
+abbrev pub most : Kind → ℕ
+most material_kind = 64
+most section_kind = 64
+most node_kind = 2000
+most element_kind = 4000
+most restraint_kind = 2000
+most case_kind = 32
+most force_kind = 4000
+
+-- whether no two records of a kind may have one key, and the key: a name, or the case and the node of a force, of which several may
+-- have one
+abbrev pub is_keyed : Kind → Bool
+is_keyed material_kind = true
+is_keyed section_kind = true
+is_keyed node_kind = true
+is_keyed element_kind = true
+is_keyed restraint_kind = true
+is_keyed case_kind = true
+is_keyed force_kind = false
+
+abbrev pub key : Record → List ℕ
+key (record_of.Material r) = r.name
+key (record_of.Section r) = r.name
+key (record_of.Node r) = r.name
+key (record_of.Element r) = r.name
+key (record_of.Restraint r) = r.name
+key (record_of.Case r) = r.name
+key (record_of.Force r) = r.case.0 ∷ r.node.0 ∷ []
+
+abbrev pub keys : Lists → Kind → List (List ℕ)
+keys m material_kind = map (λ r. r.name) m.materials
+keys m section_kind = map (λ r. r.name) m.sections
+keys m node_kind = map (λ r. r.name) m.nodes
+keys m element_kind = map (λ r. r.name) m.elements
+keys m restraint_kind = map (λ r. r.name) m.restraints
+keys m case_kind = map (λ r. r.name) m.cases
+keys m force_kind = map (λ r. r.case.0 ∷ r.node.0 ∷ []) m.forces
+
+-- a record that another names: its kind and its number
+pub record Ref : Type 0 where
+  pub kind : Kind
+  pub number : ℕ
+
+abbrev pub to : Kind → ℕ → Ref
+to kind number = record { kind = kind; number = number }
+
+-- the records that a record names
+abbrev pub refs : Record → List Ref
+refs (record_of.Material r) = []
+refs (record_of.Section r) = to material_kind r.material.0 ∷ []
+refs (record_of.Node r) = []
+refs (record_of.Element r) = to node_kind r.from.0 ∷ to node_kind r.to.0 ∷ to section_kind r.section.0 ∷ []
+refs (record_of.Restraint r) = to node_kind r.node.0 ∷ []
+refs (record_of.Case r) = []
+refs (record_of.Force r) = to case_kind r.case.0 ∷ to node_kind r.node.0 ∷ []
+
+-- they are there
+abbrev pub AreThere : Lists → List Ref → Type 0
+AreThere m [] = Unit {0}
+AreThere m (ref ∷ rest) = (ref.number < count m ref.kind) × AreThere m rest
+
+-- ---- the records before a record, in the order of the canonical text
+
+-- of the list of a kind with its place: all where the kind stands before another, the first i where it is that kind, and none behind
+abbrev pub cut : {X : Type 0} → ℕ → ℕ → ℕ → List X → List X
+cut own now i xs = if nat_lt own now then xs else (if own == now then take i xs else [])
+
+abbrev pub before_place : Lists → ℕ → ℕ → Lists
+before_place m now i = record no_records {
+  materials = cut 0 now i m.materials;
+  sections = cut 1 now i m.sections;
+  nodes = cut 2 now i m.nodes;
+  elements = cut 3 now i m.elements;
+  restraints = cut 4 now i m.restraints;
+  cases = cut 5 now i m.cases;
+  forces = cut 6 now i m.forces;
+}
+
+-- the records before number i of a kind
+abbrev pub before : Lists → Kind → ℕ → Lists
+before m k i = before_place m (place k) i
+
+-- ---- growth
+
+-- each record of m stands at its number in n too
+abbrev pub Extends : Lists → Lists → Type 0
+Extends m n = (k : Kind) (i : ℕ) (x : Of k) → slice_get (list m k) i ≡ Some x → slice_get (list n k) i ≡ Some x

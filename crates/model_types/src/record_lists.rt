@@ -1,0 +1,325 @@
+//! The records of each kind, one list a kind, and the tests of one more record.
+ghost use Rattle.std.specs.Prelude.{◌≡◌, ◌*◌, ◌≤◌, ◌^◌, pos, ◌*ℤ◌, int_le, length, [], ◌∷◌, false, OnOk, OnErr, IfOk, All};
+ghost use Rattle.model_types.specs.Lists.{names_in, number_of, no_records, added};
+ghost use Rattle.model_types.specs.Kinds.{kind_of, count, most, refs};
+ghost use Rattle.model_types.specs.Ranges.{InForm, NodeInForm, SectionInForm, IsIn, coordinate, wall};
+ghost use Rattle.model_types.specs.Rules.{IsModel, square_distance as square_between, square_difference as square_from};
+ghost use Rattle.model_types.specs.Refusals as refused;
+
+use crate::NoMemory;
+use crate::ids::Space;
+use crate::models::Model;
+use crate::records::{
+    Case, Check, Element, Force, Material, Move, Node, Pressure, Record, Restraint, Section, Tee,
+    Temp,
+};
+use crate::tables::Table;
+use std::alloc::{AllocError, Global};
+use text_words::Name;
+
+/// The records of each kind, in the order in which they came.
+#[derive(Drop)]
+pub(crate) struct RecordLists {
+    materials: Table<Material>,
+    sections: Table<Section>,
+    nodes: Table<Node>,
+    elements: Table<Element>,
+    tees: Vec<Tee>,
+    restraints: Table<Restraint>,
+    cases: Table<Case>,
+    temps: Vec<Temp>,
+    pressures: Vec<Pressure>,
+    forces: Vec<Force>,
+    moves: Vec<Move>,
+    checks: Table<Check>,
+}
+
+impl std::marker::Model for RecordLists {
+    ghost use Rattle.model_types.specs.Lists.{Lists};
+
+    ghost Value = { Lists };
+
+    ghost use Rattle.model_types.specs.Views.{record_lists};
+
+    ghost view = { record_lists };
+}
+
+impl RecordLists {
+    /// No record.
+    pub(crate) fn new(alloc: Global) -> RecordLists
+        ensures { result ≡ no_records }
+    {
+        RecordLists {
+            materials: Table::new(alloc),
+            sections: Table::new(alloc),
+            nodes: Table::new(alloc),
+            elements: Table::new(alloc),
+            tees: Vec::new(alloc),
+            restraints: Table::new(alloc),
+            cases: Table::new(alloc),
+            temps: Vec::new(alloc),
+            pressures: Vec::new(alloc),
+            forces: Vec::new(alloc),
+            moves: Vec::new(alloc),
+            checks: Table::new(alloc),
+        }
+    }
+
+    /// The model of the records.
+    pub(crate) fn into_model(self) -> Model
+        requires { IsModel self }
+        ensures { result ≡ self }
+    {
+        let RecordLists {
+            materials,
+            sections,
+            nodes,
+            elements,
+            tees,
+            restraints,
+            cases,
+            temps,
+            pressures,
+            forces,
+            moves,
+            checks,
+        } = self;
+        Model {
+            materials: materials.into_vec(),
+            sections: sections.into_vec(),
+            nodes: nodes.into_vec(),
+            elements: elements.into_vec(),
+            tees,
+            restraints: restraints.into_vec(),
+            cases: cases.into_vec(),
+            temps,
+            pressures,
+            forces,
+            moves,
+            checks: checks.into_vec(),
+        }
+    }
+
+    /// How many names a space has.
+    pub(crate) fn names(&self, space: Space) -> usize
+        ensures { result ≡ length (names_in self.now space) }
+    {
+        match space {
+            Space::Material => self.materials.len(),
+            Space::Section => self.sections.len(),
+            Space::Node => self.nodes.len(),
+            Space::Element => self.elements.len(),
+            Space::Restraint => self.restraints.len(),
+            Space::Case => self.cases.len(),
+            Space::Check => self.checks.len(),
+        }
+    }
+
+    /// The number of the record of that name in that space.
+    pub(crate) fn look_up(&self, space: Space, name: &Name) -> Option<u32>
+        ensures { result ≡ number_of self.now space name.now }
+    {
+        match space {
+            Space::Material => self.materials.find(name),
+            Space::Section => self.sections.find(name),
+            Space::Node => self.nodes.find(name),
+            Space::Element => self.elements.find(name),
+            Space::Restraint => self.restraints.find(name),
+            Space::Case => self.cases.find(name),
+            Space::Check => self.checks.find(name),
+        }
+    }
+
+    /// Appends a record with a new key, where there is room for it. An error leaves the lists as they were.
+    pub(crate) fn append(&mut self, candidate: Record) -> Result<(), AllocError>
+        requires new { refused.is_doubled self.old candidate ≡ false }
+        requires room { refused.is_too_many self.old candidate ≡ false }
+        ensures ok { OnOk result (self.new ≡ added self.old candidate) }
+        ensures unchanged { OnErr result (self.new ≡ self.old) }
+    {
+        match candidate {
+            Record::Material(r) => self.materials.push(r),
+            Record::Section(r) => self.sections.push(r),
+            Record::Node(r) => self.nodes.push(r),
+            Record::Element(r) => self.elements.push(r),
+            Record::Restraint(r) => self.restraints.push(r),
+            Record::Case(r) => self.cases.push(r),
+            Record::Force(r) => Ok(self.forces.push(r)?),
+        }
+    }
+
+    /// The number that refuses the record: that of the first test that holds.
+    pub(crate) fn refusal(&self, candidate: &Record) -> Option<u8>
+        requires form { InForm candidate.now }
+        requires nodes { All NodeInForm self.now.nodes }
+        ensures { result ≡ refused.refusal self.now candidate.now }
+    {
+        if self.is_doubled(candidate) {
+            return Some(8);
+        }
+        if self.lacks(candidate) {
+            return Some(9);
+        }
+        if let Some(number) = self.own_refusal(candidate) {
+            return Some(number);
+        }
+        if self.is_too_many(candidate) {
+            return Some(14);
+        }
+        None
+    }
+
+    // Whether a record of its kind has its key.
+    fn is_doubled(&self, candidate: &Record) -> bool
+        ensures { result ≡ refused.is_doubled self.now candidate.now }
+    {
+        match candidate {
+            Record::Material(r) => self.look_up(Space::Material, &r.name).is_some(),
+            Record::Section(r) => self.look_up(Space::Section, &r.name).is_some(),
+            Record::Node(r) => self.look_up(Space::Node, &r.name).is_some(),
+            Record::Element(r) => self.look_up(Space::Element, &r.name).is_some(),
+            Record::Restraint(r) => self.look_up(Space::Restraint, &r.name).is_some(),
+            Record::Case(r) => self.look_up(Space::Case, &r.name).is_some(),
+            Record::Force(_) => false,
+        }
+    }
+
+    // Whether a record that it names isn't there.
+    fn lacks(&self, candidate: &Record) -> bool
+        ensures { result ≡ refused.lacks self.now (refs candidate.now) }
+    {
+        match candidate {
+            Record::Material(_) | Record::Node(_) | Record::Case(_) => false,
+            Record::Section(r) => self.materials.len() <= r.material.0 as usize,
+            Record::Element(r) => {
+                self.nodes.len() <= r.from.0 as usize
+                    || self.nodes.len() <= r.to.0 as usize
+                    || self.sections.len() <= r.section.0 as usize
+            }
+            Record::Restraint(r) => self.nodes.len() <= r.node.0 as usize,
+            Record::Force(r) => {
+                self.cases.len() <= r.case.0 as usize || self.nodes.len() <= r.node.0 as usize
+            }
+        }
+    }
+
+    // The first test of its own kind that refuses the record.
+    fn own_refusal(&self, candidate: &Record) -> Option<u8>
+        requires form { InForm candidate.now }
+        requires nodes { All NodeInForm self.now.nodes }
+        ensures { result ≡ refused.first_refusal (refused.own_tests self.now candidate.now) }
+    {
+        match candidate {
+            Record::Material(_) | Record::Node(_) | Record::Restraint(_) => None,
+            Record::Case(_) | Record::Force(_) => None,
+            Record::Section(r) => section_refusal(r),
+            Record::Element(r) => element_refusal(self.nodes.as_slice(), r),
+        }
+    }
+
+    // Whether there are as many records of its kind as there may be.
+    fn is_too_many(&self, candidate: &Record) -> bool
+        ensures { result ≡ refused.is_too_many self.now candidate.now }
+    {
+        self.count(candidate) >= most(candidate)
+    }
+
+    // How many records there are of its kind.
+    fn count(&self, candidate: &Record) -> usize
+        ensures { result ≡ count self.now (kind_of candidate.now) }
+    {
+        match candidate {
+            Record::Material(_) => self.materials.len(),
+            Record::Section(_) => self.sections.len(),
+            Record::Node(_) => self.nodes.len(),
+            Record::Element(_) => self.elements.len(),
+            Record::Restraint(_) => self.restraints.len(),
+            Record::Case(_) => self.cases.len(),
+            Record::Force(_) => self.forces.len(),
+        }
+    }
+}
+
+// How many records there may be of its kind.
+fn most(candidate: &Record) -> usize
+    ensures { result ≡ most (kind_of candidate.now) }
+{
+    match candidate {
+        Record::Material(_) => 64,
+        Record::Section(_) => 64,
+        Record::Node(_) => 2000,
+        Record::Element(_) => 4000,
+        Record::Restraint(_) => 2000,
+        Record::Case(_) => 32,
+        Record::Force(_) => 4000,
+    }
+}
+
+// The test of a section: its wall fills its bore, or its allowance the wall.
+fn section_refusal(section: &Section) -> Option<u8>
+    requires { SectionInForm section.now }
+    ensures { result ≡ refused.first_refusal (refused.test 13 (refused.has_thick_wall section.now) ∷ []) }
+{
+    if fills_bore(section.d, section.t) || section.t <= section.allowance {
+        return Some(13);
+    }
+    None
+}
+
+// The tests of an element: its nodes lie at one place, or too far apart.
+fn element_refusal(nodes: &[Node], element: &Element) -> Option<u8>
+    requires { All NodeInForm nodes.now }
+    ensures { result ≡ refused.first_refusal (refused.test 10 (refused.has_no_length nodes.now element.now) ∷ refused.test 11 (refused.is_too_long nodes.now element.now) ∷ []) }
+{
+    let square = square_length(nodes, element);
+    if square.is_some_and(|square| square == 0) {
+        return Some(10);
+    }
+    if square.is_some_and(|square| square > LONGEST * LONGEST) {
+        return Some(11);
+    }
+    None
+}
+
+// The square of the distance between an element's nodes, in square micrometres, where they are there.
+fn square_length(nodes: &[Node], element: &Element) -> Option<u128>
+    requires { All NodeInForm nodes.now }
+    ensures { result ≡ refused.square_length nodes.now element.now }
+{
+    let from = nodes.get(element.from.0 as usize)?;
+    let to = nodes.get(element.to.0 as usize)?;
+    Some(square_distance(from, to))
+}
+
+// The most that the ends of an element may lie apart, in micrometres.
+const LONGEST: u128 = 30_000_000;
+
+// Whether a wall fills the bore of a pipe.
+fn fills_bore(d: i64, t: i64) -> bool
+    requires { IsIn wall t }
+    ensures { result ≡ int_le d (pos 2 *ℤ t) }
+{
+    d <= 2 * t
+}
+
+// The square of the distance between two nodes, in square micrometres.
+fn square_distance(from: &Node, to: &Node) -> u128
+    requires from_form { NodeInForm from.now }
+    requires to_form { NodeInForm to.now }
+    ensures { result ≡ square_between from.now to.now }
+{
+    square_difference(from.x, to.x)
+        + square_difference(from.y, to.y)
+        + square_difference(from.z, to.z)
+}
+
+// The square of the difference of two coordinates.
+fn square_difference(from: i64, to: i64) -> u128
+    requires from_range { IsIn coordinate from }
+    requires to_range { IsIn coordinate to }
+    ensures square { result ≡ square_from from to }
+    ensures small { result ≤ (2 * 10 ^ 10) ^ 2 }
+{
+    let difference = to.abs_diff(from) as u128;
+    difference * difference
+}
