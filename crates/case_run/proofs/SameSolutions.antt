@@ -14,7 +14,7 @@ use Rattle.member_set.specs.declared.members.Built.{Built}
 use Rattle.member_set.specs.Members.{row_count}
 use Rattle.member_set.specs.Interval.{Outcome, residual_of}
 use Rattle.factor_data.specs.Columns.{Columns, entry}
-use Rattle.factor_data.specs.Order.{freedom_at, position_of}
+use Rattle.lists.specs.Rows.{freedom_at, position_of}
 use Rattle.lists.specs.Order.{IsOrder}
 use Rattle.factor_data.proofs.OrderLemmas.{position-below, row-of_position, row-below}
 use Rattle.solve.specs.Substitution.{at, IsForwardBelow, IsForward, ForwardBreaks, forward_size, IsBackwardFrom, IsBackward, BackwardBreaks}

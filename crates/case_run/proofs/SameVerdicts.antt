@@ -6,7 +6,7 @@ use Rattle.int_laws.specs.Sums.{sum_below}
 use Rattle.int_laws.proofs.Sums.{int_sums}
 use Rattle.int_laws.proofs.SumLaws.{sum_below-same}
 use Rattle.sym_blocks.specs.Matrix.{Matrix as Blocks, node_count, entry as block_entry}
-use Rattle.factor_data.specs.Order.{position_of}
+use Rattle.lists.specs.Rows.{position_of}
 use Rattle.lists.specs.Order.{IsOrder}
 use Rattle.factor_data.specs.Columns.{Columns, entry}
 use Rattle.factor_data.proofs.OrderLemmas.{position-below}

@@ -4,7 +4,7 @@ use Rattle.model_types.specs.declared.answers.Cause.{Cause}
 use Rattle.sym_blocks.specs.Matrix.{Matrix, node_count, entry}
 use Rattle.factor_data.specs.Columns.{Columns, entry as factor_entry}
 use Rattle.lists.specs.Order.{IsOrder}
-use Rattle.factor.specs.State.{AreParents}
+use Rattle.cholesky_laws.specs.Elimination.{AreParents}
 use Rattle.int_laws.specs.Matrices.{absolute}
 use Rattle.certificate.specs.Definiteness.{SymmetricFractions, IsDefiniteWith}
 use Rattle.member_set.specs.declared.members.Built.{Built}

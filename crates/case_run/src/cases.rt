@@ -5,7 +5,7 @@ ghost use Rattle.case_run.specs.Equilibria.{OfEquilibria, HoldsAlways, HoldAlway
 ghost use Rattle.case_run.specs.Shared.{IsReady, IsShared};
 ghost use Rattle.case_run.specs.Steps.{Names};
 ghost use Rattle.certificate.specs.Bounds.{EnclosesEquilibrium};
-ghost use Rattle.factor.specs.State.{AreParents};
+ghost use Rattle.cholesky_laws.specs.Elimination.{AreParents};
 ghost use Rattle.lists.specs.Order.{IsOrder};
 ghost use Rattle.load_vectors.specs.Loads.{HasForcesAlone, case_at};
 ghost use Rattle.structure.specs.Anchors.{HasAnchorsAlone};

@@ -7,7 +7,7 @@ ghost use Rattle.assembly.specs.Stiffness.{AreAssembled, exact_entry, entry_unit
 ghost use Rattle.sym_blocks.specs.Matrix.{entry};
 ghost use Rattle.certificate.specs.Bounds.{AreBounds, IsDefiniteRealisation, EnclosesEquilibrium};
 ghost use Rattle.case_run.specs.Certified.{IsResidualCause};
-ghost use Rattle.factor.specs.State.{AreParents};
+ghost use Rattle.cholesky_laws.specs.Elimination.{AreParents};
 ghost use Rattle.lists.specs.Order.{IsOrder};
 ghost use Rattle.load_vectors.specs.Loads.{AreLoads, HasForcesAlone, case_at};
 ghost use Rattle.solve.specs.Refinement.{problem, IsCandidate};

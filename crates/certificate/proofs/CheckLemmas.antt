@@ -12,7 +12,7 @@ use Rattle.int_laws.specs.Sums.{sum_below}
 use Rattle.int_laws.proofs.Sums.{int_sums}
 use Rattle.int_laws.proofs.SumLaws.{sum_below-same, sum_below-nonnegative}
 use Rattle.sym_blocks.specs.Matrix.{Matrix as Blocks, node_count, entry as block_entry}
-use Rattle.factor_data.specs.Order.{position_of, freedom_at}
+use Rattle.lists.specs.Rows.{position_of, freedom_at}
 use Rattle.factor_data.specs.Columns.{Columns, column_rows, column_values, column_entry, entry, IsFactor}
 use Rattle.factor_data.proofs.OrderLemmas.{position-below, row-below, position-of_row}
 use Rattle.lists.proofs.PlaceLemmas.{spread-rising}

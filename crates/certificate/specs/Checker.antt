@@ -2,7 +2,7 @@
 use Rattle.std.specs.Prelude.{ℕ, ◌*◌, ◌^◌, ◌<◌, ℤ, pos, ◌*ℤ◌, ◌≤ℤ◌, ◌⊎◌, length}
 use Rattle.int_laws.specs.Sums.{sum_below}
 use Rattle.sym_blocks.specs.Matrix.{Matrix as Blocks, node_count, entry as block_entry}
-use Rattle.factor_data.specs.Order.{position_of}
+use Rattle.lists.specs.Rows.{position_of}
 use Rattle.factor_data.specs.Columns.{Columns, entry}
 use Rattle.certificate.specs.declared.check.Verdict.{Verdict}
 use Rattle.certificate.specs.declared.check.Verdict.TheVariants.{Yes, No}

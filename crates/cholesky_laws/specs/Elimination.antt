@@ -1,5 +1,5 @@
 -- Eliminating the nodes of a graph in their order, and the tree of that elimination.
-use Rattle.std.specs.Prelude.{◌≡◌, ℕ, zero, suc, ◌<◌, nat_eq, List, length, Option, Some, None, slice_index_or, if◌then◌else◌, Bool, false, ◌⊎◌, MatchOption, option_and_then}
+use Rattle.std.specs.Prelude.{IfSome, ◌≡◌, ℕ, zero, suc, ◌<◌, nat_eq, List, length, Option, Some, None, slice_index_or, if◌then◌else◌, Bool, false, ◌⊎◌, MatchOption, option_and_then}
 use Rattle.std.specs.Option.{option_map_or}
 
 -- two nodes are neighbours once the nodes before t are eliminated: eliminating a node makes its neighbours that are left
@@ -27,6 +27,10 @@ pub record IsTree (linked : ℕ → ℕ → Type 0) (nodes : ℕ) (parents : Lis
 -- the parent of a node
 abbrev pub parent_of : List (Option ℕ) → ℕ → Option ℕ
 parent_of parents p = slice_index_or parents p None
+
+-- each parent is a later node
+abbrev pub AreParents : List (Option ℕ) → ℕ → Type 0
+AreParents parents size = (p : ℕ) → p < size → IfSome (parent_of parents p) (λ u. (p < u) × (u < size))
 
 -- the first node from u on that is met on the way up from node m, with m itself; none where the way ends before
 abbrev pub met_from : List (Option ℕ) → ℕ → ℕ → Option ℕ

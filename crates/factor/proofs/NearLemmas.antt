@@ -7,7 +7,8 @@ use Rattle.lists.specs.Order.{place_of}
 use Rattle.lists.proofs.PlaceLemmas.{place-found, place-at}
 use Rattle.sym_blocks.specs.Matrix.{Matrix, pattern_of, IsSymmetricByBlocks}
 use Rattle.cholesky_laws.specs.Elimination.{parent_of}
-use Rattle.factor.specs.State.{IsProblem, IsFront, IsWithParent, AreParents, nodes_at}
+use Rattle.factor.specs.State.{IsProblem, IsFront, IsWithParent, nodes_at}
+use Rattle.cholesky_laws.specs.Elimination.{AreParents}
 use Rattle.factor.specs.declared.panel.Panel.{Panel}
 
 -- a fact of each element, from one of each number listed

@@ -6,7 +6,7 @@ use Rattle.std.specs.Int.RustNames.{unsigned_abs}
 use Rattle.lists.specs.Rising.{IsRising}
 use Rattle.sym_blocks.specs.Matrix.{Matrix, node_count, HasBlock, IsSymmetricByBlocks, entry as stiffness}
 use Rattle.cholesky_laws.specs.Recurrence.{left_after, scaled}
-use Rattle.cholesky_laws.specs.Elimination.{parent_of}
+use Rattle.cholesky_laws.specs.Elimination.{parent_of, AreParents}
 use Rattle.cholesky_laws.specs.Breakdown.{Passes, squares}
 use Rattle.lists.specs.Order.{IsOrder}
 use Rattle.factor.specs.Panel.{IsPanel, kept_for}
@@ -15,10 +15,6 @@ use Rattle.factor.specs.declared.panel.Panel.{Panel}
 -- the matrix that is factorised
 abbrev pub matrix_of : Matrix → List ℕ → ℤ → ℕ → ℕ → ℤ
 matrix_of k order shift = scaled (stiffness k) order shift
-
--- each parent is a later node
-abbrev pub AreParents : List (Option ℕ) → ℕ → Type 0
-AreParents parents size = (p : ℕ) → p < size → IfSome (parent_of parents p) (λ u. (p < u) × (u < size))
 
 -- what is factorised is within the limits
 pub record IsProblem (k : Matrix) (order : List ℕ) (parents : List (Option ℕ)) (shift : ℤ) : Type 0 where

@@ -1,7 +1,7 @@
 //! Factors of single nodes and of a chain, and where there is none.
 ghost use Rattle.std.specs.Prelude.{◌≡◌, ◌^◌, ◌≤◌, IfOk, length};
 ghost use Rattle.sym_blocks.specs.Matrix.{node_count};
-ghost use Rattle.factor.specs.State.{AreParents};
+ghost use Rattle.cholesky_laws.specs.Elimination.{AreParents};
 
 use crate::makers::{add, chain_matrix, chain_order, check_entries};
 use factor::{ScalarFault, scalar};

@@ -1,6 +1,6 @@
 //! A cantilever of 1 m: at rest, with a load at its tip, with a load that is too large, and on an anchor that is too stiff.
 ghost use Rattle.std.specs.Prelude.{◌≡◌, ◌<◌, length};
-ghost use Rattle.factor.specs.State.{AreParents};
+ghost use Rattle.cholesky_laws.specs.Elimination.{AreParents};
 ghost use Rattle.lists.specs.Order.{IsOrder};
 
 use crate::makers::{check_all_forces, check_anchors, model};

@@ -9,7 +9,7 @@ use Rattle.member_set.specs.declared.members.Built.{Built}
 use Rattle.member_set.specs.Members.{row_count, IsModerate}
 use Rattle.member_set.specs.Interval.{Outcome, residual_of}
 use Rattle.factor_data.specs.Columns.{Columns, entry}
-use Rattle.factor_data.specs.Order.{freedom_at}
+use Rattle.lists.specs.Rows.{freedom_at}
 use Rattle.solve.specs.Substitution.{at, IsForward, ForwardBreaks, IsBackward, BackwardBreaks}
 use Rattle.int_laws.specs.Matrices.{Vector}
 
