@@ -5,7 +5,7 @@ use Rattle.flex_num.specs.Root.{root_of}
 use Rattle.flex_num.proofs.RootLemmas.{root_of-is}
 use Rattle.cholesky_laws.specs.Recurrence.{pivot}
 use Rattle.cholesky_laws.proofs.RecurrenceLemmas.{cholesky-diagonal}
-use Rattle.factor_data.specs.Columns.{Columns}
+use Rattle.factor_data.specs.Columns.{ColumnLists}
 use Rattle.factor.specs.Scalar.{IsFactorOf}
 use Rattle.case_run.specs.Steps.{HasDiagonal}
 
@@ -15,7 +15,7 @@ root_positive p least =
     let one = root.greatest (pos 1) (omega (arith, ints)) in
     omega (arith, ints)
 
-pub diagonal_positive : (a : ℕ → ℕ → ℤ) (order : List ℕ) (parents : List (Option ℕ)) (f : Columns) → IsFactorOf a order parents f → HasDiagonal f
+pub diagonal_positive : (a : ℕ → ℕ → ℤ) (order : List ℕ) (parents : List (Option ℕ)) (f : ColumnLists) → IsFactorOf a order parents f → HasDiagonal f
 diagonal_positive a order parents f factor j below =
     let inside : j < 6 * length order = omega (arith, ap length factor.order_is) in
     let least = (factor.passes (j / 6) (omega arith)).pivots j (omega arith, omega arith) in

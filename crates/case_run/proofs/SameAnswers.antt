@@ -14,7 +14,7 @@ use Rattle.model_types.specs.declared.answers.CaseAnswer.{CaseAnswer}
 use Rattle.model_types.specs.declared.answers.CaseAnswer.TheVariants.{Certified, Uncertified}
 use Rattle.sym_blocks.specs.Matrix.{Matrix, entry}
 use Rattle.assembly.specs.Stiffness.{AreAssembled}
-use Rattle.factor_data.specs.Columns.{Columns}
+use Rattle.factor_data.specs.Columns.{ColumnLists}
 use Rattle.lists.specs.Order.{IsOrder}
 use Rattle.solve.specs.Refinement.{problem, LeadTo, IsTooWide}
 use Rattle.certificate.specs.declared.bounds.Enclosure.{Enclosure}
@@ -118,15 +118,15 @@ candidate-loads : (m : Lists) (case : ℕ) (p : Plan) (b : Built) (k l : Matrix)
 candidate-loads m case p b k l loads others u v one other = loads-one m case loads others one.loaded other.loaded
 
 -- the candidate's factor, and one of the other matrix
-alike-factors : (p : Plan) (b : Built) (k l r s : Matrix) (f g : Columns) → AreMatched p k l r s → row_count b ≡ 6 * length p.order →
+alike-factors : (p : Plan) (b : Built) (k l r s : Matrix) (f g : ColumnLists) → AreMatched p k l r s → row_count b ≡ 6 * length p.order →
     IsFactorAt p k (pos 0) f → IsFactorAt p l (pos 0) g → AreAlikeFactors (row_count b) f g
 alike-factors p b k l r s f g same rows one other =
     subst (λ (n : ℕ). AreAlikeFactors n f g) (sym rows) (factors-matched p k l r s (pos 0) f g same one other)
 
-ordered-factor : (p : Plan) (k : Matrix) (f : Columns) → IsOrder p.order → IsFactorAt p k (pos 0) f → IsOrder f.order
+ordered-factor : (p : Plan) (k : Matrix) (f : ColumnLists) → IsOrder p.order → IsFactorAt p k (pos 0) f → IsOrder f.order
 ordered-factor p k f ordered one = subst (λ (o : List ℕ). IsOrder o) (sym one.order_is) ordered
 
-rows-factor : (p : Plan) (b : Built) (k : Matrix) (f : Columns) → row_count b ≡ 6 * length p.order → IsFactorAt p k (pos 0) f → 6 * length f.order ≡ row_count b
+rows-factor : (p : Plan) (b : Built) (k : Matrix) (f : ColumnLists) → row_count b ≡ 6 * length p.order → IsFactorAt p k (pos 0) f → 6 * length f.order ≡ row_count b
 rows-factor p b k f rows one = ap (λ (o : List ℕ). 6 * length o) one.order_is ∙ sym rows
 
 candidate-one : (m : Lists) (case : ℕ) (p : Plan) (b : Built) (k l r s : Matrix) (loads others : List Ends) (u v : List ℤ) → AreMatched p k l r s →
@@ -136,7 +136,7 @@ candidate-one m case p b k l r s loads others u v same rows one other =
     lead-same b (resting_laws b) loads one.factor other.factor 8 u v (ordered-factor p k one.factor same.ordered one.factorised) (rows-factor p b k one.factor rows one.factorised)
     (alike-factors p b k l r s one.factor other.factor same rows one.factorised other.factorised) one.candidate there
 
-candidate-wide : (m : Lists) (case : ℕ) (p : Plan) (b : Built) (k l r s : Matrix) (loads others : List Ends) (u : List ℤ) (g : Columns) → AreMatched p k l r s →
+candidate-wide : (m : Lists) (case : ℕ) (p : Plan) (b : Built) (k l r s : Matrix) (loads others : List Ends) (u : List ℤ) (g : ColumnLists) → AreMatched p k l r s →
     row_count b ≡ 6 * length p.order → HasCandidate m case p b k loads u → AreLoads m case others → IsFactorAt p l (pos 0) g →
     IsTooWide (problem b (resting_laws b) others g) → ⊥
 candidate-wide m case p b k l r s loads others u g same rows one loaded factorised wide =

@@ -16,7 +16,7 @@ use Rattle.factor.specs.State.{matrix_of}
 use Rattle.factor.specs.Scalar.{IsFactorOf, IsBreakdown}
 use Rattle.factor.specs.declared.fault.ScalarFault.{ScalarFault}
 use Rattle.factor.specs.declared.fault.ScalarFault.TheVariants as faults
-use Rattle.factor_data.specs.Columns.{Columns}
+use Rattle.factor_data.specs.Columns.{ColumnLists}
 use Rattle.case_run.specs.Causes.{Plan, IsFactorAt, IsBreakdownCause, pivot as at_pivot, wide as too_wide}
 use Rattle.case_run.proofs.SameSolutions.{AreAlike, AreAlikeFactors}
 
@@ -95,7 +95,7 @@ wide-same nodes a b parents n alike one =
       ];
     }
 
-factor_of-same : (a b : ℕ → ℕ → ℤ) (order : List ℕ) (parents : List (Option ℕ)) (f : Columns) → AreAlike (6 * length order) a b →
+factor_of-same : (a b : ℕ → ℕ → ℤ) (order : List ℕ) (parents : List (Option ℕ)) (f : ColumnLists) → AreAlike (6 * length order) a b →
     IsFactorOf a order parents f → IsFactorOf b order parents f
 factor_of-same a b order parents f alike one =
     record {
@@ -159,7 +159,7 @@ wide-not_before nodes a parents n k one other =
     ]
 
 -- ---- the factors of a plan
-pub factor-at : (p : Plan) (k l : Matrix) (shift : ℤ) (f : Columns) → AreAlike (6 * length p.order) (matrix_of k p.order shift) (matrix_of l p.order shift) →
+pub factor-at : (p : Plan) (k l : Matrix) (shift : ℤ) (f : ColumnLists) → AreAlike (6 * length p.order) (matrix_of k p.order shift) (matrix_of l p.order shift) →
     IsFactorAt p k shift f → IsFactorAt p l shift f
 factor-at p k l shift f alike one = factor_of-same (matrix_of k p.order shift) (matrix_of l p.order shift) p.order p.parents f alike one
 
@@ -171,7 +171,7 @@ breakdown-at p k l shift c alike (too_wide node one) =
     too_wide node (breakdown-same (matrix_of k p.order shift) (matrix_of l p.order shift) p.order p.parents (faults.Wide node) alike one)
 
 -- the factors at a shift have the same entries
-pub factors-alike : (p : Plan) (k : Matrix) (shift : ℤ) (f g : Columns) → IsFactorAt p k shift f → IsFactorAt p k shift g → AreAlikeFactors (6 * length p.order) f g
+pub factors-alike : (p : Plan) (k : Matrix) (shift : ℤ) (f g : ColumnLists) → IsFactorAt p k shift f → IsFactorAt p k shift g → AreAlikeFactors (6 * length p.order) f g
 factors-alike p k shift f g one other =
     record {
       order = one.order_is ∙ sym other.order_is;
@@ -179,7 +179,7 @@ factors-alike p k shift f g one other =
     }
 
 -- where there is a factor nothing breaks down
-pub factor-excludes : (p : Plan) (k : Matrix) (shift : ℤ) (f : Columns) (c : Cause) → IsFactorAt p k shift f → IsBreakdownCause p k shift c → ⊥
+pub factor-excludes : (p : Plan) (k : Matrix) (shift : ℤ) (f : ColumnLists) (c : Cause) → IsFactorAt p k shift f → IsBreakdownCause p k shift c → ⊥
 factor-excludes p k shift f c factor (at_pivot node dof one) =
     let j = 6 * one.0 + dof in
     let breaks = one.2.2 in

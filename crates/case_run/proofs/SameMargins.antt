@@ -3,7 +3,7 @@ use Rattle.std.proofs.Common.{◌≡◌, ℕ, ◌*◌, ◌≤◌, inl, inr, sym,
 use Rattle.std.proofs.lemmas.Bool.{cases_lt}
 use Rattle.model_types.specs.declared.answers.Cause.{Cause}
 use Rattle.sym_blocks.specs.Matrix.{Matrix, node_count, entry}
-use Rattle.factor_data.specs.Columns.{Columns}
+use Rattle.factor_data.specs.Columns.{ColumnLists}
 use Rattle.lists.specs.Order.{IsOrder}
 use Rattle.certificate.specs.declared.check.Verdict.TheVariants.{Yes, No}
 use Rattle.certificate.specs.Checker.{test_of}
@@ -33,12 +33,12 @@ matched-too p k l r s same =
     }
 
 -- ---- factors
-pub factors-matched : (p : Plan) (k l r s : Matrix) (shift : ℤ) (f g : Columns) → AreMatched p k l r s → IsFactorAt p k shift f → IsFactorAt p l shift g →
+pub factors-matched : (p : Plan) (k l r s : Matrix) (shift : ℤ) (f g : ColumnLists) → AreMatched p k l r s → IsFactorAt p k shift f → IsFactorAt p l shift g →
     AreAlikeFactors (6 * length p.order) f g
 factors-matched p k l r s shift f g same one other =
     factors-alike p l shift f g (factor-at p k l shift f (factorised-alike p.order shift k l same.ordered same.middles) one) other
 
-pub factor-breakdown : (p : Plan) (k l r s : Matrix) (shift : ℤ) (f : Columns) (c : Cause) → AreMatched p k l r s → IsFactorAt p k shift f → IsBreakdownCause p l shift c → ⊥
+pub factor-breakdown : (p : Plan) (k l r s : Matrix) (shift : ℤ) (f : ColumnLists) (c : Cause) → AreMatched p k l r s → IsFactorAt p k shift f → IsBreakdownCause p l shift c → ⊥
 factor-breakdown p k l r s shift f c same one other =
     factor-excludes p l shift f c (factor-at p k l shift f (factorised-alike p.order shift k l same.ordered same.middles) one) other
 
@@ -46,7 +46,7 @@ pub breakdowns-one : (p : Plan) (k l r s : Matrix) (shift : ℤ) (c d : Cause) �
 breakdowns-one p k l r s shift c d same one other =
     breakdown-one p l shift c d (breakdown-at p k l shift c (factorised-alike p.order shift k l same.ordered same.middles) one) other
 
-tests-matched : (p : Plan) (k l r s : Matrix) (shift : ℤ) (f g : Columns) → AreMatched p k l r s → IsFactorAt p k shift f → IsFactorAt p l shift g →
+tests-matched : (p : Plan) (k l r s : Matrix) (shift : ℤ) (f g : ColumnLists) → AreMatched p k l r s → IsFactorAt p k shift f → IsFactorAt p l shift g →
     AreAlikeTests (test_of k r f shift) (test_of l s g shift)
 tests-matched p k l r s shift f g same one other =
     tests-alike (6 * length p.order) k l r s f g shift same.size same.other_size (subst (λ (o : List ℕ). IsOrder o) (sym one.order_is) same.ordered)

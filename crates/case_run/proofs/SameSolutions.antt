@@ -13,8 +13,9 @@ use Rattle.member_set.specs.declared.members.Law.{Law}
 use Rattle.member_set.specs.declared.members.Built.{Built}
 use Rattle.member_set.specs.Members.{row_count}
 use Rattle.member_set.specs.Interval.{Outcome, residual_of}
-use Rattle.factor_data.specs.Columns.{Columns, entry}
-use Rattle.factor_data.specs.Order.{freedom_at, position_of}
+use Rattle.factor_data.specs.Columns.{entry}
+use Rattle.factor_data.specs.Columns.{ColumnLists}
+use Rattle.lists.specs.Rows.{freedom_at, position_of}
 use Rattle.lists.specs.Order.{IsOrder}
 use Rattle.factor_data.proofs.OrderLemmas.{position-below, row-of_position, row-below}
 use Rattle.solve.specs.Substitution.{at, IsForwardBelow, IsForward, ForwardBreaks, forward_size, IsBackwardFrom, IsBackward, BackwardBreaks}
@@ -177,7 +178,7 @@ moved-excludes n order other u z y v ordered size same unknowns one moderate far
 -- ---- a turn, by two factors with the same entries
 
 -- the same order and the same entries
-pub record AreAlikeFactors (n : ℕ) (f g : Columns) : Type 0 where
+pub record AreAlikeFactors (n : ℕ) (f g : ColumnLists) : Type 0 where
   pub order : f.order ≡ g.order
   pub entries : AreAlike n (entry f) (entry g)
 
@@ -188,7 +189,7 @@ sides-forward o p r s d e k orders numbers digits =
 sides-backward : (y z : List ℤ) (d e k : ℕ) → y ≡ z → d ≡ e → backward_side y d k ≡ backward_side z e k
 sides-backward y z d e k numbers digits = ap (λ (x : List ℤ). backward_side x d k) numbers ∙ ap (λ (x : ℕ). backward_side z x k) digits
 
-pub turn-same : (b : Built) (laws : List Law) (loads : List Ends) (f g : Columns) (u v w : List ℤ) → IsOrder f.order → 6 * length f.order ≡ row_count b →
+pub turn-same : (b : Built) (laws : List Law) (loads : List Ends) (f g : ColumnLists) (u v w : List ℤ) → IsOrder f.order → 6 * length f.order ≡ row_count b →
     AreAlikeFactors (row_count b) f g → IsTurn (problem b laws loads f) u v → IsTurn (problem b laws loads g) u w → v ≡ w
 turn-same b laws loads f g u v w ordered size alike one two =
     let n = row_count b in
@@ -198,7 +199,7 @@ turn-same b laws loads f g u v w ordered size alike one two =
     let z = backward-same n (entry f) (entry g) _ _ one.z two.z alike.entries (λ k l. sides-backward one.y two.y one.digits two.digits k y digits) one.backward two.backward in
     moved-same n f.order g.order u one.z two.z v w ordered size alike.order z one.moved two.moved
 
-turn-excludes : (b : Built) (laws : List Law) (loads : List Ends) (f g : Columns) (u v : List ℤ) → IsOrder f.order → 6 * length f.order ≡ row_count b →
+turn-excludes : (b : Built) (laws : List Law) (loads : List Ends) (f g : ColumnLists) (u v : List ℤ) → IsOrder f.order → 6 * length f.order ≡ row_count b →
     AreAlikeFactors (row_count b) f g → IsTurn (problem b laws loads f) u v → TurnBreaks (problem b laws loads g) u → ⊥
 turn-excludes b laws loads f g u v ordered size alike one (no_residual none) = middles-exclude (row_count b) (residual_of b laws loads u) one.r one.middles none
 turn-excludes b laws loads f g u v ordered size alike one (no_room r middles none) =
@@ -223,14 +224,14 @@ turn-excludes b laws loads f g u v ordered size alike one (too_far r digits y z 
     moved-excludes n f.order g.order u one.z z v ordered size alike.order zs one.moved one.moderate far
 
 -- ---- the turns
-pub lead-same : (b : Built) (laws : List Law) (loads : List Ends) (f g : Columns) (n : ℕ) (v w : List ℤ) → IsOrder f.order → 6 * length f.order ≡ row_count b →
+pub lead-same : (b : Built) (laws : List Law) (loads : List Ends) (f g : ColumnLists) (n : ℕ) (v w : List ℤ) → IsOrder f.order → 6 * length f.order ≡ row_count b →
     AreAlikeFactors (row_count b) f g → LeadTo (problem b laws loads f) n v → LeadTo (problem b laws loads g) n w → v ≡ w
 lead-same b laws loads f g zero v w ordered size alike one two = one ∙ sym two
 lead-same b laws loads f g (suc n) v w ordered size alike one two =
     let before = lead-same b laws loads f g n one.0 two.0 ordered size alike one.1 two.1 in
     turn-same b laws loads f g two.0 v w ordered size alike (subst (λ (u : List ℤ). IsTurn (problem b laws loads f) u v) before one.2) two.2
 
-lead-before : (b : Built) (laws : List Law) (loads : List Ends) (f : Columns) (n t : ℕ) (v : List ℤ) → t < n → LeadTo (problem b laws loads f) n v →
+lead-before : (b : Built) (laws : List Law) (loads : List Ends) (f : ColumnLists) (n t : ℕ) (v : List ℤ) → t < n → LeadTo (problem b laws loads f) n v →
     (u : List ℤ) × LeadTo (problem b laws loads f) t u × ((w : List ℤ) × IsTurn (problem b laws loads f) u w)
 lead-before b laws loads f zero t v below lead = absurd (omega arith)
 lead-before b laws loads f (suc n) t v below lead =
@@ -241,7 +242,7 @@ lead-before b laws loads f (suc n) t v below lead =
           (lead.0, subst (λ (m : ℕ). LeadTo (problem b laws loads f) m lead.0) here lead.1, (v, lead.2))
     ]
 
-pub candidate-excludes : (b : Built) (laws : List Law) (loads : List Ends) (f g : Columns) (v : List ℤ) → IsOrder f.order → 6 * length f.order ≡ row_count b →
+pub candidate-excludes : (b : Built) (laws : List Law) (loads : List Ends) (f g : ColumnLists) (v : List ℤ) → IsOrder f.order → 6 * length f.order ≡ row_count b →
     AreAlikeFactors (row_count b) f g → LeadTo (problem b laws loads f) 8 v → IsTooWide (problem b laws loads g) → ⊥
 candidate-excludes b laws loads f g v ordered size alike lead wide =
     let before = lead-before b laws loads f 8 wide.turns v wide.before lead in

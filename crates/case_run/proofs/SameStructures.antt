@@ -13,7 +13,8 @@ use Rattle.model_types.specs.declared.answers.Cause.TheVariants as causes
 use Rattle.sym_blocks.specs.Matrix.{Matrix, entry}
 use Rattle.assembly.specs.Stiffness.{stiffness_at, AreAssembled, IsFirstWide}
 use Rattle.flex_interval.specs.Operations.{middle_of, radius_of}
-use Rattle.cholesky_laws.specs.Recurrence.{freedom_at, scaled}
+use Rattle.cholesky_laws.specs.Recurrence.{scaled}
+use Rattle.lists.specs.Rows.{freedom_at}
 use Rattle.lists.specs.Order.{IsOrder}
 use Rattle.factor_data.proofs.OrderLemmas.{row-below}
 use Rattle.factor.specs.State.{matrix_of}

@@ -6,9 +6,10 @@ use Rattle.int_laws.specs.Sums.{sum_below}
 use Rattle.int_laws.proofs.Sums.{int_sums}
 use Rattle.int_laws.proofs.SumLaws.{sum_below-same}
 use Rattle.sym_blocks.specs.Matrix.{Matrix as Blocks, node_count, entry as block_entry}
-use Rattle.factor_data.specs.Order.{position_of}
+use Rattle.lists.specs.Rows.{position_of}
 use Rattle.lists.specs.Order.{IsOrder}
-use Rattle.factor_data.specs.Columns.{Columns, entry}
+use Rattle.factor_data.specs.Columns.{entry}
+use Rattle.factor_data.specs.Columns.{ColumnLists}
 use Rattle.factor_data.proofs.OrderLemmas.{position-below}
 use Rattle.int_laws.specs.Matrices.{absolute, scalar_matrix}
 use Rattle.certificate.specs.Definiteness.{CholeskyTest, residual, row_margin}
@@ -115,7 +116,7 @@ pub verdict-one : (t s : CholeskyTest) (v w : Verdict) → AreAlikeTests t s →
 verdict-one t s v w alike one other = one-verdict s v w (verdict-same t s v alike one) other
 
 -- the tests of the same matrices by the same factor
-pub tests-alike : (n : ℕ) (k l r s : Blocks) (f g : Columns) (shift : ℤ) → 6 * node_count k ≡ n → 6 * node_count l ≡ n → IsOrder f.order → 6 * length f.order ≡ n →
+pub tests-alike : (n : ℕ) (k l r s : Blocks) (f g : ColumnLists) (shift : ℤ) → 6 * node_count k ≡ n → 6 * node_count l ≡ n → IsOrder f.order → 6 * length f.order ≡ n →
     AreAlike n (block_entry k) (block_entry l) → AreAlike n (block_entry r) (block_entry s) → AreAlikeFactors n f g →
     AreAlikeTests (test_of k r f shift) (test_of l s g shift)
 tests-alike n k l r s f g shift k_size l_size ordered size middles radii factors =

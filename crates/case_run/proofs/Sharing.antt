@@ -11,13 +11,13 @@ use Rattle.member_set.specs.Realisation.{Realisation, IsRealisation}
 use Rattle.model_types.specs.Lists.{Lists}
 use Rattle.model_types.specs.declared.answers.Cause.{Cause}
 use Rattle.sym_blocks.specs.Matrix.{Matrix}
-use Rattle.factor_data.specs.Columns.{Columns}
+use Rattle.factor_data.specs.Columns.{ColumnLists}
 use Rattle.structure.specs.Structure.{IsStructureOf}
 use Rattle.load_vectors.specs.Loads.{AreLoads}
 use Rattle.case_run.specs.Causes.{Plan, resting_laws, IsFactorAt}
 use Rattle.case_run.specs.Steps.{HasDiagonal, IsFactorFor}
 
-pub factor_for : (b : Built) (p : Plan) (middles : Matrix) (shift : ℤ) (Q : Cause → Type 0) (r : Result Columns Cause) →
+pub factor_for : (b : Built) (p : Plan) (middles : Matrix) (shift : ℤ) (Q : Cause → Type 0) (r : Result ColumnLists Cause) →
     length p.order ≡ nodes_of b → MatchResult r (IsFactorAt p middles shift) Q → IfOk r HasDiagonal → IfOk r (IsFactorFor b)
 factor_for b p middles shift Q (Ok f) nodes factor diagonal =
     record { nodes_are = ap (λ (xs : List ℕ). length xs) factor.order_is ∙ nodes; diagonal = diagonal }

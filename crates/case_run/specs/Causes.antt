@@ -12,7 +12,7 @@ use Rattle.assembly.specs.Stiffness.{IsFirstWide}
 use Rattle.factor.specs.State.{matrix_of}
 use Rattle.factor.specs.Scalar.{IsFactorOf, IsBreakdown}
 use Rattle.factor.specs.declared.fault.ScalarFault.TheVariants as faults
-use Rattle.factor_data.specs.Columns.{Columns}
+use Rattle.factor_data.specs.Columns.{ColumnLists}
 use Rattle.solve.specs.Refinement.{Problem, IsTooWide}
 use Rattle.structure.specs.Structure.{model_members}
 use Rattle.load_vectors.specs.Loads.{IsFirstWideLoad}
@@ -52,7 +52,7 @@ pub data IsLoadCause (m : Lists) (case : ℕ) : Cause → Type 0 where
   load_row : (row : ℕ) → IsFirstWideLoad m case row → IsLoadCause m case (width_load row)
 
 -- the factor of the middles at a shift
-abbrev pub IsFactorAt : Plan → Matrix → ℤ → Columns → Type 0
+abbrev pub IsFactorAt : Plan → Matrix → ℤ → ColumnLists → Type 0
 IsFactorAt p middles shift factor = IsFactorOf (matrix_of middles p.order shift) p.order p.parents factor
 
 -- the middles have no factor at a shift: the cause is the first breakdown

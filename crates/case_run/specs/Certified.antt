@@ -10,7 +10,7 @@ use Rattle.model_types.specs.declared.answers.CaseAnswer.{CaseAnswer}
 use Rattle.model_types.specs.declared.answers.CaseAnswer.TheVariants.{Certified, Uncertified}
 use Rattle.sym_blocks.specs.Matrix.{Matrix}
 use Rattle.assembly.specs.Stiffness.{AreAssembled}
-use Rattle.factor_data.specs.Columns.{Columns}
+use Rattle.factor_data.specs.Columns.{ColumnLists}
 use Rattle.solve.specs.Refinement.{problem, IsCandidate}
 use Rattle.certificate.specs.declared.bounds.Enclosure.{Enclosure}
 use Rattle.certificate.specs.declared.check.Verdict.TheVariants.{Yes, No}
@@ -31,7 +31,7 @@ last_place = 17
 
 -- the middles have a factor at the shift, and no row fails with it; lambda is the margin
 pub record ShiftPasses (p : Plan) (middles radii : Matrix) (shift lambda : ℤ) : Type 0 where
-  pub factor : Columns
+  pub factor : ColumnLists
   pub factorised : IsFactorAt p middles shift factor
   pub verdict : IsVerdict (test_of middles radii factor shift) (Yes lambda)
 
@@ -41,7 +41,7 @@ margin_cause = at_row (λ node freedom. causes.Margin (record { 0 = node }) free
 -- the middles have no factor at the shift, or a row fails: the first one
 pub data ShiftFails (p : Plan) (middles radii : Matrix) (shift : ℤ) : Cause → Type 0 where
   no_factor : (cause : Cause) → IsBreakdownCause p middles shift cause → ShiftFails p middles radii shift cause
-  row_fails : (factor : Columns) (row : ℕ) → IsFactorAt p middles shift factor → IsVerdict (test_of middles radii factor shift) (No row)
+  row_fails : (factor : ColumnLists) (row : ℕ) → IsFactorAt p middles shift factor → IsVerdict (test_of middles radii factor shift) (No row)
       → ShiftFails p middles radii shift (margin_cause row)
 
 -- each shift before a place fails, for some cause
@@ -80,7 +80,7 @@ pub data IsModelCause (m : Lists) (p : Plan) (cause : Cause) : Type 0 where
 
 -- the loads of a case, the factor of the middles without a shift, and the candidate with it
 pub record HasCandidate (m : Lists) (case : ℕ) (p : Plan) (b : Built) (middles : Matrix) (loads : List Ends) (u : List ℤ) : Type 0 where
-  pub factor : Columns
+  pub factor : ColumnLists
   pub loaded : AreLoads m case loads
   pub factorised : IsFactorAt p middles (pos 0) factor
   pub candidate : IsCandidate (problem b (resting_laws b) loads factor) u
@@ -101,7 +101,7 @@ pub data IsOwnCause (m : Lists) (case : ℕ) (p : Plan) (b : Built) (middles : M
   no_loads : IsLoadCause m case cause → IsOwnCause m case p b middles lambda cause
   no_unshifted_factor : (loads : List Ends) → AreLoads m case loads → IsBreakdownCause p middles (pos 0) cause
       → IsOwnCause m case p b middles lambda cause
-  no_candidate : (loads : List Ends) (factor : Columns) → AreLoads m case loads → IsFactorAt p middles (pos 0) factor
+  no_candidate : (loads : List Ends) (factor : ColumnLists) → AreLoads m case loads → IsFactorAt p middles (pos 0) factor
       → IsSolveCause (problem b (resting_laws b) loads factor) cause → IsOwnCause m case p b middles lambda cause
   no_bounds : (loads : List Ends) (u : List ℤ) → HasCandidate m case p b middles loads u → IsResidualCause b loads u lambda cause
       → IsOwnCause m case p b middles lambda cause

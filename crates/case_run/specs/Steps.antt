@@ -2,7 +2,8 @@
 use Rattle.std.specs.Prelude.{◌≡◌, ℕ, ◌*◌, ◌^◌, ◌<◌, ◌≤◌, ⊤, List, length, Option, ℤ, pos, ◌-ℤ◌, ◌*ℤ◌, ◌≤ℤ◌, ◌<ℤ◌, unsigned_abs}
 use Rattle.model_types.specs.declared.answers.Cause.{Cause}
 use Rattle.sym_blocks.specs.Matrix.{Matrix, node_count, entry}
-use Rattle.factor_data.specs.Columns.{Columns, entry as factor_entry}
+use Rattle.factor_data.specs.Columns.{entry as factor_entry}
+use Rattle.factor_data.specs.Columns.{ColumnLists}
 use Rattle.lists.specs.Order.{IsOrder}
 use Rattle.elimination.specs.Elimination.{AreParents}
 use Rattle.int_laws.specs.Matrices.{absolute}
@@ -23,7 +24,7 @@ pub record IsFactorable (nodes : ℕ) (m : Matrix) : Type 0 where
   pub small : (i j : ℕ) → unsigned_abs (entry m i j) < 2 ^ 60
 
 -- the diagonal of a factor is positive
-abbrev pub HasDiagonal : Columns → Type 0
+abbrev pub HasDiagonal : ColumnLists → Type 0
 HasDiagonal f = (j : ℕ) → j < 6 * length f.order → pos 0 <ℤ factor_entry f j j
 
 -- an order of some nodes, and the parent of each of its places
@@ -49,6 +50,6 @@ AreDefinite middles radii lambda =
     IsDefiniteWith (6 * node_count middles) lambda k
 
 -- a factor of a structure's nodes with a positive diagonal
-pub record IsFactorFor (b : Built) (f : Columns) : Type 0 where
+pub record IsFactorFor (b : Built) (f : ColumnLists) : Type 0 where
   pub nodes_are : length f.order ≡ nodes_of b
   pub diagonal : HasDiagonal f

@@ -12,8 +12,9 @@ use Rattle.int_laws.specs.Sums.{sum_below}
 use Rattle.int_laws.proofs.Sums.{int_sums}
 use Rattle.int_laws.proofs.SumLaws.{sum_below-same, sum_below-nonnegative}
 use Rattle.sym_blocks.specs.Matrix.{Matrix as Blocks, node_count, entry as block_entry}
-use Rattle.factor_data.specs.Order.{position_of, freedom_at}
-use Rattle.factor_data.specs.Columns.{Columns, column_rows, column_values, column_entry, entry, IsFactor}
+use Rattle.lists.specs.Rows.{position_of, freedom_at}
+use Rattle.factor_data.specs.Columns.{column_rows, column_values, column_entry, entry, IsFactor}
+use Rattle.factor_data.specs.Columns.{ColumnLists}
 use Rattle.factor_data.proofs.OrderLemmas.{position-below, row-below, position-of_row}
 use Rattle.lists.proofs.PlaceLemmas.{spread-rising}
 use Rattle.lists.proofs.UniqueLemmas.{decide_contains}
@@ -34,7 +35,7 @@ use Rattle.certificate.proofs.ColumnLemmas.{absolute-mul}
 use Rattle.certificate.proofs.PlaceLemmas.{position-read}
 
 -- the size of a column's entry
-column-size : (f : Columns) (k i : ℕ) → IsFactor f → column_size (column_rows f k) (column_values f k) i ≡ absolute (entry f i k)
+column-size : (f : ColumnLists) (k i : ℕ) → IsFactor f → column_size (column_rows f k) (column_values f k) i ≡ absolute (entry f i k)
 column-size f k i kept =
     let rows = column_rows f k in
     let spread = spread-rising (column_rows f k) _ (kept.rising k) (λ j h. kept.in_range j k h) in
@@ -49,11 +50,11 @@ column-size f k i kept =
     ]
 
 -- the products of the row at position p with that at position j, in value and in size
-products : (f : Columns) (list : List RowEntry) (p j : ℕ) → ListsRow f p list →
+products : (f : ColumnLists) (list : List RowEntry) (p j : ℕ) → ListsRow f p list →
     row_product (λ z. z) list (λ k. column_entry (column_rows f k) (column_values f k) j) ≡ sum_below (6 * length f.order) (λ k. entry f p k *ℤ entry f j k)
 products f list p j lists = lists.value (λ k. column_entry (column_rows f k) (column_values f k) j)
 
-sizes : (f : Columns) (list : List RowEntry) (p j : ℕ) → IsFactor f → ListsRow f p list →
+sizes : (f : ColumnLists) (list : List RowEntry) (p j : ℕ) → IsFactor f → ListsRow f p list →
     row_product absolute list (λ k. column_size (column_rows f k) (column_values f k) j) ≡ sum_below (6 * length f.order) (λ k. absolute (entry f p k *ℤ entry f j k))
 sizes f list p j kept lists =
     lists.size (λ k. column_size (column_rows f k) (column_values f k) j)
@@ -64,7 +65,7 @@ sizes f list p j kept lists =
     ∙ sym (absolute-mul (entry f p k) (entry f j k)))
 
 -- what the sums miss is the residual
-missed-residual : (middle radii : Blocks) (f : Columns) (shift : ℤ) (places : List ℕ) (list : List RowEntry) (sums : List GuardedSum) (row c : ℕ) → IsFactor f →
+missed-residual : (middle radii : Blocks) (f : ColumnLists) (shift : ℤ) (places : List ℕ) (list : List RowEntry) (sums : List GuardedSum) (row c : ℕ) → IsFactor f →
     length f.order ≡ node_count middle → places ≡ places_of f.order → ListsRow f (position_of f.order row) list → length sums ≡ 6 * length f.order → SumsRow f list sums →
     c < 6 * node_count middle → missed middle shift places sums row c ≡ residual (test_of middle radii f shift) row c
 missed-residual middle radii f shift places list sums row c kept same placed lists positions summed inside =
@@ -74,7 +75,7 @@ missed-residual middle radii f shift places list sums row c kept same placed lis
     let there = ap (λ (j : ℕ). sum_below (6 * length f.order) (λ k. entry f (position_of f.order row) k *ℤ entry f j k)) at in
     ap (λ (z : ℤ). (pos (2 ^ 52) *ℤ (block_entry middle row c -ℤ scalar_matrix shift row c)) -ℤ z) (value ∙ there)
 
-residual-total : (middle radii : Blocks) (f : Columns) (shift : ℤ) (places : List ℕ) (list : List RowEntry) (row : ℕ) (r : ℤ) → IsFactor f →
+residual-total : (middle radii : Blocks) (f : ColumnLists) (shift : ℤ) (places : List ℕ) (list : List RowEntry) (row : ℕ) (r : ℤ) → IsFactor f →
     length f.order ≡ node_count middle → places ≡ places_of f.order → ListsRow f (position_of f.order row) list → HasResidual f list middle shift places row r →
     r ≡ sum_below (6 * node_count middle) (λ j. absolute (residual (test_of middle radii f shift) row j))
 residual-total middle radii f shift places list row r kept same placed lists has =
@@ -83,7 +84,7 @@ residual-total middle radii f shift places list row r kept same placed lists has
     (λ c inside. ap absolute (missed-residual middle radii f shift places list has.sums row c kept same placed lists has.positions has.summed inside))
 
 -- a row that can't be summed is refused
-beyond-refused : (middle radii : Blocks) (f : Columns) (shift : ℤ) (list : List RowEntry) (row : ℕ) → IsFactor f → length f.order ≡ node_count middle →
+beyond-refused : (middle radii : Blocks) (f : ColumnLists) (shift : ℤ) (list : List RowEntry) (row : ℕ) → IsFactor f → length f.order ≡ node_count middle →
     ListsRow f (position_of f.order row) list → IsRowBeyond f list → RowIsRefused (test_of middle radii f shift) row
 beyond-refused middle radii f shift list row kept same lists beyond =
     let c = freedom_at f.order beyond.at in
@@ -96,7 +97,7 @@ beyond-refused middle radii f shift list row kept same lists beyond =
     )
 
 -- and one that is summed is not too large
-summed-small : (middle radii : Blocks) (f : Columns) (shift : ℤ) (list : List RowEntry) (sums : List GuardedSum) (row j : ℕ) → IsFactor f → length f.order ≡ node_count middle →
+summed-small : (middle radii : Blocks) (f : ColumnLists) (shift : ℤ) (list : List RowEntry) (sums : List GuardedSum) (row j : ℕ) → IsFactor f → length f.order ≡ node_count middle →
     ListsRow f (position_of f.order row) list → length sums ≡ 6 * length f.order → SumsRow f list sums → j < 6 * node_count middle →
     product_sizes (test_of middle radii f shift) row j <ℤ pos (2 ^ 126)
 summed-small middle radii f shift list sums row j kept same lists positions summed inside =
@@ -109,14 +110,14 @@ radius-up : (radii : Blocks) (n row : ℕ) → ((i j : ℕ) → pos 0 ≤ℤ blo
 radius-up radii n row up = sum_below-nonnegative n (λ j. block_entry radii row j) (λ j _. up row j)
 
 -- a row that misses the limit fails
-lost-fails : (middle radii : Blocks) (f : Columns) (shift row : ℕ) (r : ℤ) → ((i j : ℕ) → pos 0 ≤ℤ block_entry radii i j) → shift ≤ 2 ^ 44 →
+lost-fails : (middle radii : Blocks) (f : ColumnLists) (shift row : ℕ) (r : ℤ) → ((i j : ℕ) → pos 0 ≤ℤ block_entry radii i j) → shift ≤ 2 ^ 44 →
     r ≡ sum_below (6 * node_count middle) (λ j. absolute (residual (test_of middle radii f (pos shift)) row j)) → pos (2 ^ 126) ≤ℤ r → RowFails (test_of middle radii f (pos shift)) row
 lost-fails middle radii f shift row r up small sum lost =
     let radius = radius-up radii (6 * node_count middle) row up in
     omega (arith, ints, sum, lost, small, radius)
 
 -- ---- the answers of the code
-pub lost-refused : (middle radii : Blocks) (f : Columns) (shift : ℕ) (places : List ℕ) (list : List RowEntry) (row : ℕ) → IsFactor f →
+pub lost-refused : (middle radii : Blocks) (f : ColumnLists) (shift : ℕ) (places : List ℕ) (list : List RowEntry) (row : ℕ) → IsFactor f →
     length f.order ≡ node_count middle → places ≡ places_of f.order → ListsRow f (position_of f.order row) list → ((i j : ℕ) → pos 0 ≤ℤ block_entry radii i j) → shift ≤ 2 ^ 44 →
     IsRowLost f list middle (pos shift) places row → RowIsRefused (test_of middle radii f (pos shift)) row
 lost-refused middle radii f shift places list row kept same placed lists up small (inl beyond) =
@@ -124,7 +125,7 @@ lost-refused middle radii f shift places list row kept same placed lists up smal
 lost-refused middle radii f shift places list row kept same placed lists up small (inr (r, has, lost)) =
     inr (lost-fails middle radii f shift row r up small (residual-total middle radii f (pos shift) places list row r kept same placed lists has) lost)
 
-margin-is : (middle radii : Blocks) (f : Columns) (shift : ℕ) (places : List ℕ) (list : List RowEntry) (row r radius : ℕ) → IsFactor f →
+margin-is : (middle radii : Blocks) (f : ColumnLists) (shift : ℕ) (places : List ℕ) (list : List RowEntry) (row r radius : ℕ) → IsFactor f →
     length f.order ≡ node_count middle → places ≡ places_of f.order → ListsRow f (position_of f.order row) list → HasResidual f list middle (pos shift) places row (pos r) →
     pos radius ≡ sum_below (6 * node_count middle) (λ j. block_entry radii row j) →
     ((pos (2 ^ 52) *ℤ pos shift) -ℤ pos r) -ℤ (pos (2 ^ 52) *ℤ pos radius) ≡ row_margin (test_of middle radii f (pos shift)) row
@@ -132,7 +133,7 @@ margin-is middle radii f shift places list row r radius kept same placed lists h
     ap (λ (z : ℤ). ((pos (2 ^ 52) *ℤ pos shift) -ℤ z) -ℤ (pos (2 ^ 52) *ℤ pos radius)) (residual-total middle radii f (pos shift) places list row (pos r) kept same placed lists has)
     ∙ ap (λ (z : ℤ). ((pos (2 ^ 52) *ℤ pos shift) -ℤ sum_below (6 * node_count middle) (λ j. absolute (residual (test_of middle radii f (pos shift)) row j))) -ℤ (pos (2 ^ 52) *ℤ z)) is_radius
 
-not_refused : (middle radii : Blocks) (f : Columns) (shift : ℕ) (list : List RowEntry) (row m : ℕ) → IsFactor f → length f.order ≡ node_count middle →
+not_refused : (middle radii : Blocks) (f : ColumnLists) (shift : ℕ) (list : List RowEntry) (row m : ℕ) → IsFactor f → length f.order ≡ node_count middle →
     ListsRow f (position_of f.order row) list → (sums : List GuardedSum) → length sums ≡ 6 * length f.order → SumsRow f list sums →
     pos m ≡ row_margin (test_of middle radii f (pos shift)) row → 2 ^ 52 ≤ m → RowIsRefused (test_of middle radii f (pos shift)) row → ⊥
 not_refused middle radii f shift list row m kept same lists sums positions summed margin enough (inl (j, inside, large)) =
@@ -147,7 +148,7 @@ not_refused middle radii f shift list row m kept same lists sums positions summe
 abbrev pub JudgesRow : CholeskyTest → ℕ → Option ℕ → Type 0
 JudgesRow t row answer = MatchOption answer (RowIsRefused t row) (λ m. ((RowIsRefused t row → ⊥) × (pos m ≡ row_margin t row)) × (2 ^ 52 ≤ m))
 
-pub margin-judges : (middle radii : Blocks) (f : Columns) (shift : ℕ) (places : List ℕ) (list : List RowEntry) (row r radius : ℕ) (answer : Option ℕ) → IsFactor f →
+pub margin-judges : (middle radii : Blocks) (f : ColumnLists) (shift : ℕ) (places : List ℕ) (list : List RowEntry) (row r radius : ℕ) (answer : Option ℕ) → IsFactor f →
     length f.order ≡ node_count middle → places ≡ places_of f.order → ListsRow f (position_of f.order row) list → HasResidual f list middle (pos shift) places row (pos r) →
     pos radius ≡ sum_below (6 * node_count middle) (λ j. block_entry radii row j) →
     MatchOption answer ((((pos (2 ^ 52) *ℤ pos shift) -ℤ pos r) -ℤ (pos (2 ^ 52) *ℤ pos radius)) <ℤ pos (2 ^ 52))
@@ -162,7 +163,7 @@ margin-judges middle radii f shift places list row r radius (Some m) kept same p
     ((not_refused middle radii f shift list row m kept same lists has.sums has.positions has.summed margin enough, margin), enough)
 
 -- the entries of a row are those listed at its position
-pub row-listed : (f : Columns) (lists : Lists) (row position : ℕ) (entries : List RowEntry) → IsFactor f → AreListsOf f lists → row < 6 * length f.order →
+pub row-listed : (f : ColumnLists) (lists : Lists) (row position : ℕ) (entries : List RowEntry) → IsFactor f → AreListsOf f lists → row < 6 * length f.order →
     position ≡ freedom_at (places_of lists.order) row → entries ≡ list_of lists.rows position → ListsRow f (position_of f.order row) entries
 row-listed f lists row position entries kept listed inside is_position is_entries =
     let at = is_position ∙ position-read f.order (places_of lists.order) row (ap places_of listed.order_is) inside in
@@ -170,7 +171,7 @@ row-listed f lists row position entries kept listed inside is_position is_entrie
     let there = ap (list_of lists.rows) at in
     subst P (sym (is_entries ∙ there)) (listed.rows (position_of f.order row) (position-below f.order row kept.order inside))
 
-pub position-inside : (f : Columns) (lists : Lists) (row position : ℕ) → IsFactor f → AreListsOf f lists → row < 6 * length f.order →
+pub position-inside : (f : ColumnLists) (lists : Lists) (row position : ℕ) → IsFactor f → AreListsOf f lists → row < 6 * length f.order →
     position ≡ freedom_at (places_of lists.order) row → position < length lists.rows
 position-inside f lists row position kept listed inside is_position =
     omega (arith, is_position, position-read f.order (places_of lists.order) row (ap places_of listed.order_is) inside, position-below f.order row kept.order inside, listed.length_same)

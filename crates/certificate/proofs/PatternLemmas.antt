@@ -3,7 +3,7 @@ use Rattle.std.proofs.Common.{◌≡◌, ℕ, ◌+◌, ◌*◌, ◌/◌, ◌^◌
 use Rattle.std.proofs.lemmas.List.{get_or_default}
 use Rattle.int_laws.specs.Sums.{sum_below}
 use Rattle.sym_blocks.specs.Matrix.{Matrix as SymMatrix, node_count, pattern_of, IsSymmetricByBlocks}
-use Rattle.factor_data.specs.Order.{freedom_at}
+use Rattle.lists.specs.Rows.{freedom_at}
 use Rattle.lists.specs.Order.{IsSpread}
 use Rattle.factor_data.proofs.OrderLemmas.{sum-pattern}
 use Rattle.lists.proofs.PlaceLemmas.{spread-rising}

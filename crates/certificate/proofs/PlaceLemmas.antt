@@ -2,7 +2,7 @@
 use Rattle.std.proofs.Common.{◌≡◌, ℕ, ◌*◌, ◌/◌, ◌<◌, ap, arith, List, length, get_or}
 use Rattle.lists.specs.Order.{places_of}
 use Rattle.lists.proofs.PlaceLemmas.{places-read}
-use Rattle.factor_data.specs.Order.{position_of, freedom_at}
+use Rattle.lists.specs.Rows.{position_of, freedom_at}
 
 pub position-read : (order places : List ℕ) (row : ℕ) → places ≡ places_of order → row < 6 * length order → freedom_at places row ≡ position_of order row
 position-read order places row placed inside =

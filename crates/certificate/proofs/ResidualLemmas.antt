@@ -8,7 +8,7 @@ use Rattle.int_laws.proofs.SumLaws.{sum_below-same, sum_below-le, sum_below-sub,
 use Rattle.sym_blocks.specs.Matrix.{Matrix as SymMatrix, entry, node_count, pattern_of, IsSymmetricByBlocks}
 use Rattle.flex_num.specs.declared.guarded.GuardedSum.{GuardedSum}
 use Rattle.int_laws.specs.Matrices.{absolute, scalar_matrix}
-use Rattle.factor_data.specs.Order.{freedom_at}
+use Rattle.lists.specs.Rows.{freedom_at}
 use Rattle.lists.specs.Order.{IsSpread, IsOrder}
 use Rattle.certificate.specs.RowSums.{sizes_total}
 use Rattle.flex_num.specs.Guarded.{value_at}

@@ -3,7 +3,8 @@ use Rattle.std.proofs.Common.{◌≡◌, ℕ, suc, ◌+◌, ◌*◌, ◌<◌, �
 use Rattle.int_laws.proofs.Sums.{int_sums}
 use Rattle.int_laws.proofs.Products.{mul_nonnegative}
 use Rattle.int_laws.proofs.SumLaws.{sum_below-nonnegative, sum_below-le_more}
-use Rattle.factor_data.specs.Columns.{Columns, column_rows, column_values, column_entry}
+use Rattle.factor_data.specs.Columns.{column_rows, column_values, column_entry}
+use Rattle.factor_data.specs.Columns.{ColumnLists}
 use Rattle.certificate.specs.declared.row_lists.RowEntry.{RowEntry}
 use Rattle.flex_num.specs.declared.guarded.GuardedSum.{GuardedSum}
 use Rattle.int_laws.specs.Matrices.{absolute}
@@ -13,13 +14,13 @@ use Rattle.certificate.specs.RowLists.{no_entry, row_part, SumsRow, IsRowBeyond}
 use Rattle.certificate.proofs.ColumnLemmas.{term_up}
 
 -- the sums with one entry more, whose column was added
-pub record AddsEntry (f : Columns) (row : List RowEntry) (t : ℕ) (mid new : List GuardedSum) : Type 0 where
+pub record AddsEntry (f : ColumnLists) (row : List RowEntry) (t : ℕ) (mid new : List GuardedSum) : Type 0 where
   pub value : (j : ℕ) → j < length mid → value_at mid j ≡ row_part (λ z. z) t row (λ k. column_entry (column_rows f k) (column_values f k) j) →
       value_at new j ≡ row_part (λ z. z) (t + 1) row (λ k. column_entry (column_rows f k) (column_values f k) j)
   pub size : (j : ℕ) → j < length mid → pos (size_at mid j) ≡ row_part absolute t row (λ k. column_size (column_rows f k) (column_values f k) j) →
       pos (size_at new j) ≡ row_part absolute (t + 1) row (λ k. column_size (column_rows f k) (column_values f k) j)
 
-pub adds-entry : (f : Columns) (row : List RowEntry) (t : ℕ) (mid new : List GuardedSum) (rows : List ℕ) (values : List ℤ) (factor : ℤ) →
+pub adds-entry : (f : ColumnLists) (row : List RowEntry) (t : ℕ) (mid new : List GuardedSum) (rows : List ℕ) (values : List ℤ) (factor : ℤ) →
     AddsColumn mid new rows values factor → rows ≡ column_rows f (get_or row t no_entry).column → values ≡ column_values f (get_or row t no_entry).column →
     factor ≡ (get_or row t no_entry).value → AddsEntry f row t mid new
 adds-entry f row t mid new rows values factor adds is_rows is_values is_factor =
@@ -37,7 +38,7 @@ size-up rows values j =
     sum_below-nonnegative (length rows) _ (λ v _. term_up rows values j v)
 
 -- the sizes reach the limit with this entry
-pub row-beyond : (f : Columns) (row : List RowEntry) (t : ℕ) (mid : List GuardedSum) (rows : List ℕ) (values : List ℤ) (factor : ℤ) →
+pub row-beyond : (f : ColumnLists) (row : List RowEntry) (t : ℕ) (mid : List GuardedSum) (rows : List ℕ) (values : List ℤ) (factor : ℤ) →
     IsBeyond mid rows values factor → rows ≡ column_rows f (get_or row t no_entry).column → values ≡ column_values f (get_or row t no_entry).column →
     factor ≡ (get_or row t no_entry).value → t < length row → length mid ≡ 6 * length f.order →
     ((j : ℕ) → j < length mid → pos (size_at mid j) ≡ row_part absolute t row (λ k. column_size (column_rows f k) (column_values f k) j)) → IsRowBeyond f row
@@ -56,7 +57,7 @@ row-beyond f row t mid rows values factor beyond is_rows is_values is_factor mor
     }
 
 -- the whole row
-pub sums-row : (f : Columns) (row : List RowEntry) (t : ℕ) (sums : List GuardedSum) → t ≤ length row → length row ≤ t →
+pub sums-row : (f : ColumnLists) (row : List RowEntry) (t : ℕ) (sums : List GuardedSum) → t ≤ length row → length row ≤ t →
     ((j : ℕ) → j < length sums → value_at sums j ≡ row_part (λ z. z) t row (λ k. column_entry (column_rows f k) (column_values f k) j)) →
     ((j : ℕ) → j < length sums → pos (size_at sums j) ≡ row_part absolute t row (λ k. column_size (column_rows f k) (column_values f k) j)) →
     SumsRow f row sums

@@ -2,15 +2,16 @@
 use Rattle.std.specs.Prelude.{ℕ, ◌*◌, ◌^◌, ◌<◌, ℤ, pos, ◌*ℤ◌, ◌≤ℤ◌, ◌⊎◌, length}
 use Rattle.int_laws.specs.Sums.{sum_below}
 use Rattle.sym_blocks.specs.Matrix.{Matrix as Blocks, node_count, entry as block_entry}
-use Rattle.factor_data.specs.Order.{position_of}
-use Rattle.factor_data.specs.Columns.{Columns, entry}
+use Rattle.lists.specs.Rows.{position_of}
+use Rattle.factor_data.specs.Columns.{entry}
+use Rattle.factor_data.specs.Columns.{ColumnLists}
 use Rattle.certificate.specs.declared.check.Verdict.{Verdict}
 use Rattle.certificate.specs.declared.check.Verdict.TheVariants.{Yes, No}
 use Rattle.int_laws.specs.Matrices.{Entries, absolute}
 use Rattle.certificate.specs.Definiteness.{CholeskyTest, RowFails, IsDefinitenessMargin, EachIsDefiniteWith}
 
 -- the test of a middle matrix and radii by a factor: its rows are those of the matrices, and its products have the scale 2^52
-abbrev pub test_of : Blocks → Blocks → Columns → ℤ → CholeskyTest
+abbrev pub test_of : Blocks → Blocks → ColumnLists → ℤ → CholeskyTest
 test_of middle radii factor shift =
     record {
       size = 6 * node_count middle;

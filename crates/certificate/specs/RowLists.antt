@@ -4,7 +4,8 @@ use Rattle.int_laws.specs.Sums.{sum_below}
 use Rattle.lists.specs.Lists.{list_of}
 use Rattle.certificate.specs.declared.row_lists.RowEntry.{RowEntry}
 use Rattle.int_laws.specs.Matrices.{Vector, absolute}
-use Rattle.factor_data.specs.Columns.{Columns, column_rows, column_values, column_entry}
+use Rattle.factor_data.specs.Columns.{column_rows, column_values, column_entry}
+use Rattle.factor_data.specs.Columns.{ColumnLists}
 use Rattle.flex_num.specs.declared.guarded.GuardedSum.{GuardedSum}
 use Rattle.certificate.specs.RowSums.{column_size}
 use Rattle.flex_num.specs.Guarded.{value_at, size_at}
@@ -30,17 +31,17 @@ pub record ListsColumn (old new : List (List RowEntry)) (column : ℕ) (rows : L
       row_product absolute (list_of new i) x ≡ row_product absolute (list_of old i) x +ℤ (column_size rows values i *ℤ x column)
 
 -- a list has the row at position i: it gives the row's product with every x, and so do the sizes
-pub record ListsRow (f : Columns) (i : ℕ) (list : List RowEntry) : Type 0 where
+pub record ListsRow (f : ColumnLists) (i : ℕ) (list : List RowEntry) : Type 0 where
   pub value : (x : Vector) → row_product (λ z. z) list x ≡ sum_below (6 * length f.order) (λ k. column_entry (column_rows f k) (column_values f k) i *ℤ x k)
   pub size : (x : Vector) → row_product absolute list x ≡ sum_below (6 * length f.order) (λ k. column_size (column_rows f k) (column_values f k) i *ℤ x k)
 
 -- the sums are the row's products with every row
-pub record SumsRow (f : Columns) (list : List RowEntry) (sums : List GuardedSum) : Type 0 where
+pub record SumsRow (f : ColumnLists) (list : List RowEntry) (sums : List GuardedSum) : Type 0 where
   pub value : (j : ℕ) → j < length sums → value_at sums j ≡ row_product (λ z. z) list (λ k. column_entry (column_rows f k) (column_values f k) j)
   pub size : (j : ℕ) → j < length sums → pos (size_at sums j) ≡ row_product absolute list (λ k. column_size (column_rows f k) (column_values f k) j)
 
 -- the sizes of the row's products with some row reach the limit
-pub record IsRowBeyond (f : Columns) (list : List RowEntry) : Type 0 where
+pub record IsRowBeyond (f : ColumnLists) (list : List RowEntry) : Type 0 where
   pub at : ℕ
   pub inside : at < 6 * length f.order
   pub reached : pos (2 ^ 126) ≤ℤ row_product absolute list (λ k. column_size (column_rows f k) (column_values f k) at)

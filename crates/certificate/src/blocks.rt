@@ -2,7 +2,7 @@ ghost use Rattle.std.specs.Prelude.{◌≡◌, ℕ, ◌+◌, ◌*◌, ◌/◌, �
 ghost use Rattle.int_laws.specs.Sums.{sum_below};
 ghost use Rattle.sym_blocks.specs.Matrix.{entry, node_count};
 ghost use Rattle.int_laws.specs.Matrices.{scalar_matrix};
-ghost use Rattle.factor_data.specs.Order.{freedom_at};
+ghost use Rattle.lists.specs.Rows.{freedom_at};
 ghost use Rattle.lists.specs.Order.{IsOrder};
 ghost use Rattle.certificate.specs.RowSums.{sizes_total};
 ghost use Rattle.flex_num.specs.Guarded.{value_at};

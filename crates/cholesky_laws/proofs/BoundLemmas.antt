@@ -8,7 +8,8 @@ use Rattle.flex_num.specs.Root.{root_of}
 use Rattle.flex_num.proofs.DivisionLemmas.{nearest_of-is, nearest_unique}
 use Rattle.flex_num.proofs.RootLemmas.{root_of-is}
 use Rattle.int_laws.specs.Sums.{sum_below}
-use Rattle.cholesky_laws.specs.Recurrence.{cholesky, left_after, pivot, freedom_at, scaled}
+use Rattle.cholesky_laws.specs.Recurrence.{cholesky, left_after, pivot, scaled}
+use Rattle.lists.specs.Rows.{freedom_at}
 use Rattle.cholesky_laws.proofs.RecurrenceLemmas.{cases_pivot, cholesky-broken, cholesky-diagonal, cholesky-below}
 use Rattle.elimination.specs.Elimination.{parent_of, is_in_subtree}
 use Rattle.cholesky_laws.specs.Breakdown.{squares}

@@ -4,3 +4,4 @@ pub mod PanelLemmas
 pub mod SubtreeLemmas
 pub mod BoundLemmas
 pub mod FillLemmas
+pub mod DeterminedLemmas

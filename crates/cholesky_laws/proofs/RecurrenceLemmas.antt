@@ -6,7 +6,7 @@ use Rattle.int_laws.proofs.Sums.{int_sums}
 use Rattle.flex_num.specs.Division.{nearest_of}
 use Rattle.flex_num.specs.Root.{root_of}
 use Rattle.int_laws.specs.Sums.{sum_below}
-use Rattle.cholesky_laws.specs.Recurrence.{products, remainder, next_column, columns_below, cholesky, left_after, pivot, IsFactor}
+use Rattle.cholesky_laws.specs.Recurrence.{products, remainder, next_column, columns_below, cholesky, left_after, pivot, MeetsRecurrence}
 
 -- what the first n columns take is the closed sum
 products-sum : (a : ℕ → ℕ → ℤ) (n i j : ℕ) → products (columns_below a n) i j ≡ sum_below n (λ k. cholesky a i k *ℤ cholesky a j k)
@@ -70,9 +70,9 @@ cholesky-below a i j lt ok =
     ∙ ap (λ r. nearest_of (left_after a j i j) r) (sym (cholesky-diagonal a j ok))
 
 -- the factor follows the rules
-pub IsFactor-cholesky : (a : ℕ → ℕ → ℤ) → IsFactor a (cholesky a)
+pub MeetsRecurrence-cholesky : (a : ℕ → ℕ → ℤ) → MeetsRecurrence a (cholesky a)
 unfolding left_after
-IsFactor-cholesky a =
+MeetsRecurrence-cholesky a =
     record {
       above = cholesky-above a;
       broken = λ i j low. cholesky-broken a i j low;

@@ -4,6 +4,7 @@ use Rattle.std.specs.Prelude.{◌≡◌, ℕ, zero, suc, ◌+◌, ◌*◌, ◌/�
 use Rattle.flex_num.specs.Division.{nearest_of}
 use Rattle.flex_num.specs.Root.{root_of}
 use Rattle.int_laws.specs.Sums.{sum_below}
+use Rattle.lists.specs.Rows.{freedom_at}
 
 -- what finished columns take from the entry in row i and column j
 abbrev pub products : List (ℕ → ℤ) → ℕ → ℕ → ℤ
@@ -40,18 +41,22 @@ left_after a n i j = a i j -ℤ sum_below n (λ k. cholesky a i k *ℤ cholesky 
 abbrev pub pivot : (ℕ → ℕ → ℤ) → ℕ → ℤ
 pivot a j = left_after a j j j
 
--- g is the factor of a: the rules of the recurrence as equations between whole columns
-pub record IsFactor (a g : ℕ → ℕ → ℤ) : Type 0 where
+-- g meets the rules of the recurrence for a, as equations between whole columns
+pub record MeetsRecurrence (a g : ℕ → ℕ → ℤ) : Type 0 where
   pub above : (i j : ℕ) → i < j → g i j ≡ pos 0
   pub broken : (i j : ℕ) → (a j j -ℤ sum_below j (λ k. g j k *ℤ g j k)) <ℤ pos 1 → g i j ≡ pos 0
   pub diagonal : (j : ℕ) → pos 1 ≤ℤ (a j j -ℤ sum_below j (λ k. g j k *ℤ g j k)) → g j j ≡ root_of (a j j -ℤ sum_below j (λ k. g j k *ℤ g j k))
   pub below : (i j : ℕ) → j < i → pos 1 ≤ℤ (a j j -ℤ sum_below j (λ k. g j k *ℤ g j k)) → g i j ≡ nearest_of (a i j -ℤ sum_below j (λ k. g i k *ℤ g j k)) (g j j)
 
--- the stiffness in elimination positions, scaled by 2^52 and with a shift off the diagonal entries: position 6 p + f is
--- freedom f of the node at place p of the order
-abbrev pub freedom_at : List ℕ → ℕ → ℕ
-freedom_at order i = 6 * slice_index order (i / 6) + i % 6
+-- the recurrence meets its equations
+abbrev pub RecurrenceMeetsItsEquations : Type 0
+RecurrenceMeetsItsEquations = (a : ℕ → ℕ → ℤ) → MeetsRecurrence a (cholesky a)
 
+-- whatever meets the equations is the factor of the recurrence
+abbrev pub RecurrenceIsDetermined : Type 0
+RecurrenceIsDetermined = (a g : ℕ → ℕ → ℤ) → MeetsRecurrence a g → (i j : ℕ) → g i j ≡ cholesky a i j
+
+-- the stiffness in elimination positions, scaled by 2^52 and with a shift off the diagonal entries
 unfoldable pub scaled : (ℕ → ℕ → ℤ) → List ℕ → ℤ → ℕ → ℕ → ℤ
 scaled km order shift i j =
     pos (2 ^ 52) *ℤ (km (freedom_at order i) (freedom_at order j) -ℤ (if nat_eq i j then shift else pos 0))

@@ -11,7 +11,8 @@ use Rattle.lists.specs.Rising.{IsRising}
 use Rattle.lists.specs.Order.{place_of}
 use Rattle.lists.proofs.PlaceLemmas.{place_of-at, place_of-absent, at_place_of}
 use Rattle.sym_blocks.specs.Matrix.{Matrix, HasBlock, IsSymmetricByBlocks, entry as stiffness}
-use Rattle.cholesky_laws.specs.Recurrence.{cholesky, left_after, scaled, freedom_at}
+use Rattle.cholesky_laws.specs.Recurrence.{cholesky, left_after, scaled}
+use Rattle.lists.specs.Rows.{freedom_at}
 use Rattle.cholesky_laws.specs.Breakdown.{Passes}
 use Rattle.cholesky_laws.proofs.SumsLemmas.{sum_below-split}
 use Rattle.cholesky_laws.proofs.RecurrenceLemmas.{left_after-none}

@@ -5,7 +5,7 @@ use Rattle.std.proofs.lemmas.Result.{err_from_is_err_and}
 use Rattle.std.proofs.lemmas.Bool.{cases_lt, lt-ltb, le-ltb}
 use Rattle.std.proofs.lemmas.List.{get_or_append_left, get_or_push, length_push, length-map, map_push}
 use Rattle.lists.specs.Lists.{list_of}
-use Rattle.factor_data.specs.Columns.{Columns}
+use Rattle.factor_data.specs.Columns.{ColumnLists}
 use Rattle.cholesky_laws.specs.Recurrence.{cholesky}
 use Rattle.cholesky_laws.proofs.RecurrenceLemmas.{cholesky-above}
 use Rattle.factor.specs.Panel.{kept_for}
@@ -90,7 +90,7 @@ panel_shapes a parents size panels p =
     }
 
 -- the factor has the recurrence's entries
-pub factor_is : (a : ℕ → ℕ → ℤ) (order : List ℕ) (parents : List (Option ℕ)) (panels : List Panel) (f : Columns) → ArePanels a parents (length order) (length order) panels → HasColumns order panels f → IsFactorOf a order parents f
+pub factor_is : (a : ℕ → ℕ → ℤ) (order : List ℕ) (parents : List (Option ℕ)) (panels : List Panel) (f : ColumnLists) → ArePanels a parents (length order) (length order) panels → HasColumns order panels f → IsFactorOf a order parents f
 factor_is a order parents panels f p c =
     record {
       order_is = c.order_is;
@@ -113,7 +113,7 @@ factor_is a order parents panels f p c =
     }
 
 -- the exit of a `?` where memory ran out is a breakdown
-pub no_memory : (a : ℕ → ℕ → ℤ) (order : List ℕ) (parents : List (Option ℕ)) (r : Result Columns ScalarFault) → IsErrAnd r (λ fault. fault ≡ NoMemory) → MatchResult r (IsFactorOf a order parents) (IsBreakdown a order parents)
+pub no_memory : (a : ℕ → ℕ → ℤ) (order : List ℕ) (parents : List (Option ℕ)) (r : Result ColumnLists ScalarFault) → IsErrAnd r (λ fault. fault ≡ NoMemory) → MatchResult r (IsFactorOf a order parents) (IsBreakdown a order parents)
 no_memory a order parents r out =
     let p = err_from_is_err_and r out in
     let P : ScalarFault → Type 0 = λ f. IsBreakdown a order parents f in

@@ -2,7 +2,8 @@
 use Rattle.std.specs.Prelude.{◌≡◌, ℕ, ◌+◌, ◌*◌, ◌/◌, ◌%◌, ◌<◌, ◌≤◌, List, length, slice_index, slice_index_or, Contains, All, nat_lt, if◌then◌else◌, ◌⊎◌, ◌↔◌, ℤ, pos}
 use Rattle.lists.specs.Rising.{IsRising}
 use Rattle.lists.specs.Lists.{list_of}
-use Rattle.factor_data.specs.Columns.{Columns, entry}
+use Rattle.factor_data.specs.Columns.{entry}
+use Rattle.factor_data.specs.Columns.{ColumnLists}
 use Rattle.factor.specs.Panel.{kept_for}
 use Rattle.factor.specs.State.{nodes_at, entries_at}
 use Rattle.factor.specs.declared.panel.Panel.{Panel}
@@ -16,7 +17,7 @@ pub record ArePanelShapes (size : ℕ) (panels : List Panel) : Type 0 where
   pub whole : (d : ℕ) → d < size → length (entries_at panels d) ≡ 36 * length (nodes_at panels d)
 
 -- the factor has the panels' entries, and zeros above the diagonal
-pub record HasColumns (order : List ℕ) (panels : List Panel) (f : Columns) : Type 0 where
+pub record HasColumns (order : List ℕ) (panels : List Panel) (f : ColumnLists) : Type 0 where
   pub order_is : f.order ≡ order
   pub entries : (i j : ℕ) → j < 6 * length order →
       entry f i j ≡ (if nat_lt i j then pos 0 else kept_for 36 (nodes_at panels (j / 6)) (entries_at panels (j / 6)) (i / 6) (6 * (i % 6) + j % 6))

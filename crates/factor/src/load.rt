@@ -1,6 +1,6 @@
 ghost use Rattle.std.specs.Prelude.{◌≡◌, ℕ, ◌+◌, ◌*◌, ◌/◌, ◌%◌, ◌<◌, ◌≤◌, All, IfOk, length, slice_index, slice_index_or, pos};
 ghost use Rattle.std.specs.Int.RustNames.{unsigned_abs};
-ghost use Rattle.cholesky_laws.specs.Recurrence.{freedom_at};
+ghost use Rattle.lists.specs.Rows.{freedom_at};
 ghost use Rattle.factor.specs.State.{IsProblem, matrix_of};
 ghost use Rattle.factor.specs.Front.{IsLoaded};
 

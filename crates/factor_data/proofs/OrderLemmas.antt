@@ -7,7 +7,7 @@ use Rattle.std.proofs.lemmas.List.{get_or_default}
 use Rattle.int_laws.specs.Sums.{sum_below}
 use Rattle.int_laws.proofs.SumLaws.{sum_below-reindexed}
 use Rattle.lists.specs.Rising.{IsRising}
-use Rattle.factor_data.specs.Order.{position_of, freedom_at}
+use Rattle.lists.specs.Rows.{position_of, freedom_at}
 use Rattle.lists.specs.Order.{place_of, IsSpread, IsOrder}
 use Rattle.lists.proofs.PlaceLemmas.{place-found, place-at}
 use Rattle.lists.proofs.UniqueLemmas.{decide_contains}

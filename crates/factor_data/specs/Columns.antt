@@ -1,27 +1,22 @@
 -- The columns of a lower triangular factor.
-use Rattle.std.specs.Prelude.{Vec, ◌≡◌, ℕ, ◌*◌, ◌<◌, ◌≤◌, List, [], length, map, slice_index, slice_index_or, Contains, nat_eq, if◌then◌else◌, ℤ, pos}
-use Rattle.std.specs.declared.alloc.Global.{Global}
+use Rattle.std.specs.Prelude.{◌≡◌, ℕ, ◌*◌, ◌<◌, ◌≤◌, List, [], length, slice_index, slice_index_or, Contains, nat_eq, if◌then◌else◌, ℤ, pos}
 use Rattle.int_laws.specs.Sums.{sum_below}
 use Rattle.lists.specs.Rising.{IsRising}
 use Rattle.lists.specs.Order.{IsOrder}
 
 -- a factor as contracts see it: the order of elimination, and for each column the positions of its entries and their values
-pub record Columns : Type 0 where
+pub record ColumnLists : Type 0 where
   pub order : List ℕ
   pub rows : List (List ℕ)
   pub values : List (List ℤ)
 
-abbrev pub columns_of : List ℕ → List (List ℕ) → List (List ℤ) → Columns
+abbrev pub columns_of : List ℕ → List (List ℕ) → List (List ℤ) → ColumnLists
 columns_of order rows values = record { order = order; rows = rows; values = values }
 
--- the lists that vectors hold
-abbrev pub contents : {X : Type 0} → List (Vec X Global) → List (List X)
-contents vs = map (λ v. v.items) vs
-
-abbrev pub column_rows : Columns → ℕ → List ℕ
+abbrev pub column_rows : ColumnLists → ℕ → List ℕ
 column_rows f j = slice_index_or f.rows j []
 
-abbrev pub column_values : Columns → ℕ → List ℤ
+abbrev pub column_values : ColumnLists → ℕ → List ℤ
 column_values f j = slice_index_or f.values j []
 
 -- what the first so many places of a column hold for row i, each value by its weight
@@ -34,12 +29,12 @@ abbrev pub column_entry : List ℕ → List ℤ → ℕ → ℤ
 column_entry rows values i = column_part (λ z. z) (length rows) rows values i
 
 -- the entry at positions i and j
-abbrev pub entry : Columns → ℕ → ℕ → ℤ
+abbrev pub entry : ColumnLists → ℕ → ℕ → ℤ
 entry f i j = column_entry (column_rows f j) (column_values f j) i
 
 -- the order is one, and there are six columns for each node, with rising positions from the column's own on and a
 -- value for each
-pub record IsFactor (f : Columns) : Type 0 where
+pub record IsFactor (f : ColumnLists) : Type 0 where
   pub order : IsOrder f.order
   pub columns : length f.rows ≡ 6 * length f.order
   pub same : length f.values ≡ 6 * length f.order

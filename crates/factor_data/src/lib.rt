@@ -2,7 +2,7 @@
 #![tactic(auto)]
 
 ghost use Rattle.std.specs.Prelude.{◌≡◌, IfOk};
-ghost use Rattle.factor_data.specs.Columns.{contents};
+ghost use Rattle.lists.specs.Lists.{contents};
 
 use lists::find_rising;
 use std::alloc::{AllocError, Global};
@@ -22,9 +22,11 @@ pub struct Factor {
 }
 
 impl Model for Factor {
-    ghost use Rattle.factor_data.specs.Columns.{Columns, contents, IsFactor};
+    ghost use Rattle.factor_data.specs.Columns.{IsFactor};
+    ghost use Rattle.factor_data.specs.Columns.{ColumnLists};
+    ghost use Rattle.lists.specs.Lists.{contents};
 
-    ghost Value = { Columns };
+    ghost Value = { ColumnLists };
 
     ghost view = { λ f. record { order = f.order.items; rows = contents f.rows.items; values = contents f.values.items } };
 

@@ -5,4 +5,5 @@ pub mod ListsLemmas
 pub mod LaterLemmas
 pub mod LinkLemmas
 pub mod NamedLemmas
+pub mod RowLemmas
 pub mod SearchLemmas

@@ -5,7 +5,8 @@ use Rattle.int_laws.specs.Sums.{sum_below}
 use Rattle.int_laws.proofs.Products.{zero-mul}
 use Rattle.int_laws.proofs.SumLaws.{sum_below-same, sum_below-reindexed}
 use Rattle.lists.specs.Order.{IsSpread}
-use Rattle.factor_data.specs.Columns.{Columns, IsFactor, column_rows, column_part, column_entry}
+use Rattle.factor_data.specs.Columns.{IsFactor, column_rows, column_part, column_entry}
+use Rattle.factor_data.specs.Columns.{ColumnLists}
 use Rattle.factor_data.proofs.ColumnLemmas.{part-listed, part-missing}
 use Rattle.lists.proofs.UniqueLemmas.{decide_contains}
 use Rattle.lists.proofs.PlaceLemmas.{spread-rising}
@@ -63,5 +64,5 @@ pub gathered_size-whole : (rows : List ℕ) (values x : List ℤ) (n j : ℕ) �
 gathered_size-whole rows values x n j spread = sum-past (λ a b. absolute (a *ℤ b)) rows values x n j (λ y. ap absolute (zero-mul y)) spread
 
 -- the rows of a column of a factor
-pub column-spread : (f : Columns) (n j : ℕ) → IsFactor f → 6 * length f.order ≡ n → IsSpread (column_rows f j) n
+pub column-spread : (f : ColumnLists) (n j : ℕ) → IsFactor f → 6 * length f.order ≡ n → IsSpread (column_rows f j) n
 column-spread f n j kept size = spread-rising (column_rows f j) n (kept.rising j) (λ k found. subst (λ (m : ℕ). k < m) size (kept.in_range k j found))

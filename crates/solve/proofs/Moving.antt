@@ -1,7 +1,7 @@
 -- Adding unknowns, by positions, to displacements, by rows.
 use Rattle.std.specs.Prelude.{slice_set}
 use Rattle.std.proofs.Common.{◌≡◌, ◌≢◌, ℕ, ◌+◌, ◌*◌, ◌<◌, ◌≤◌, ◌⊎◌, inl, inr, List, length, sym, ◌∙◌, ap, arith, ℤ, pos, ◌+ℤ◌, get_or-set_same, get_or-set_other}
-use Rattle.factor_data.specs.Order.{freedom_at}
+use Rattle.lists.specs.Rows.{freedom_at}
 use Rattle.lists.specs.Order.{IsOrder}
 use Rattle.factor_data.proofs.OrderLemmas.{column-apart}
 use Rattle.solve.specs.Substitution.{at}

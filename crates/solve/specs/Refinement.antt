@@ -8,8 +8,9 @@ use Rattle.member_set.specs.declared.members.Law.{Law}
 use Rattle.member_set.specs.declared.members.Built.{Built}
 use Rattle.member_set.specs.Members.{row_count, IsModerate}
 use Rattle.member_set.specs.Interval.{Outcome, residual_of}
-use Rattle.factor_data.specs.Columns.{Columns, entry}
-use Rattle.factor_data.specs.Order.{freedom_at}
+use Rattle.factor_data.specs.Columns.{entry}
+use Rattle.factor_data.specs.Columns.{ColumnLists}
+use Rattle.lists.specs.Rows.{freedom_at}
 use Rattle.solve.specs.Substitution.{at, IsForward, ForwardBreaks, IsBackward, BackwardBreaks}
 use Rattle.int_laws.specs.Matrices.{Vector}
 
@@ -72,9 +73,9 @@ pub record Problem : Type 0 where
   pub structure : Built
   pub laws : List Law
   pub loads : List Ends
-  pub factor : Columns
+  pub factor : ColumnLists
 
-abbrev pub problem : Built → List Law → List Ends → Columns → Problem
+abbrev pub problem : Built → List Law → List Ends → ColumnLists → Problem
 problem structure laws loads factor = record { structure = structure; laws = laws; loads = loads; factor = factor }
 
 abbrev pub size_of : Problem → ℕ

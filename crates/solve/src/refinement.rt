@@ -2,7 +2,7 @@ ghost use Rattle.std.specs.Prelude.{◌≡◌, ℕ, ◌+◌, ◌*◌, ◌/◌, �
 ghost use Rattle.member_set.specs.Members.{IsBuilt, FitsBuilt, IsModerate, row_count, node_count};
 ghost use Rattle.member_set.specs.Interval.{residual_of};
 ghost use Rattle.factor_data.specs.Columns.{entry};
-ghost use Rattle.factor_data.specs.Order.{freedom_at};
+ghost use Rattle.lists.specs.Rows.{freedom_at};
 ghost use Rattle.lists.specs.Order.{IsOrder};
 ghost use Rattle.flex_num.specs.Guarded.{value_at};
 ghost use Rattle.solve.specs.Numerators.{IsWhole};

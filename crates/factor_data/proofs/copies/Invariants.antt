@@ -1,5 +1,5 @@
 use Rattle.std.proofs.Common.{◌≡◌, take}
-use Rattle.factor_data.specs.Columns.{contents}
+use Rattle.lists.specs.Lists.{contents}
 use Rattle.factor_data.proofs.copies.Given as goal
 
 abbrev pub invariant-loop-list : goal.invariant-loop-list

@@ -2,7 +2,7 @@ use Rattle.std.proofs.Common.{arith, add-one, ap, sym, subst, ◌∙◌, ◌≡�
 use Rattle.std.proofs.lemmas.Int.{ints}
 use Rattle.int_laws.specs.Sums.{sum_below}
 use Rattle.sym_blocks.specs.Matrix.{entry}
-use Rattle.factor_data.specs.Order.{freedom_at}
+use Rattle.lists.specs.Rows.{freedom_at}
 use Rattle.certificate.proofs.PatternLemmas.{pattern-numbered, sum-blocks}
 use Rattle.certificate.proofs.blocks.radius_sum.Goals as goal
 

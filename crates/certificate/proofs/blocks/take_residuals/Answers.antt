@@ -5,7 +5,7 @@ use mir.Val.{SFits}
 use Rattle.int_laws.proofs.Sums.{int_sums}
 use Rattle.sym_blocks.specs.Matrix.{node_count}
 use Rattle.int_laws.specs.Matrices.{absolute}
-use Rattle.factor_data.specs.Order.{freedom_at}
+use Rattle.lists.specs.Rows.{freedom_at}
 use Rattle.flex_num.specs.Guarded.{value_at}
 use Rattle.certificate.specs.RowResidual.{missed}
 use Rattle.factor_data.proofs.OrderLemmas.{column-below, row-below}

@@ -1,7 +1,7 @@
 use Rattle.std.proofs.Common.{◌≡◌, ◌≢◌, ◌<◌, ◌^◌, ℕ, pos, length}
 use Rattle.int_laws.specs.Sums.{sum_below}
 use Rattle.int_laws.specs.Matrices.{absolute}
-use Rattle.factor_data.specs.Order.{freedom_at}
+use Rattle.lists.specs.Rows.{freedom_at}
 use Rattle.flex_num.specs.Guarded.{value_at}
 use Rattle.certificate.specs.RowResidual.{missed}
 use Rattle.certificate.proofs.blocks.take_residuals.Given as goal

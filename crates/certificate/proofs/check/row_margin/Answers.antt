@@ -2,7 +2,7 @@ use Rattle.std.proofs.Common.{arith, ap, subst, sym, ◌∙◌, ◌≡◌, ◌<�
 use Rattle.std.proofs.lemmas.List.{get_or_default}
 use Rattle.int_laws.specs.Sums.{sum_below}
 use Rattle.sym_blocks.specs.Matrix.{node_count, entry}
-use Rattle.factor_data.specs.Order.{freedom_at}
+use Rattle.lists.specs.Rows.{freedom_at}
 use Rattle.lists.specs.Order.{IsOrder, places_of}
 use Rattle.certificate.specs.Space.{Lists, AreListsOf}
 use Rattle.lists.proofs.PlaceLemmas.{length-places, places-order}

@@ -5,7 +5,8 @@ use Rattle.std.proofs.lemmas.List.{get_or_default}
 use Rattle.std.proofs.lemmas.Bool.{eq-eqb, ne_eqb}
 use Rattle.int_laws.proofs.Sums.{int_sums}
 use Rattle.sym_blocks.specs.Matrix.{entry}
-use Rattle.cholesky_laws.specs.Recurrence.{scaled, freedom_at}
+use Rattle.cholesky_laws.specs.Recurrence.{scaled}
+use Rattle.lists.specs.Rows.{freedom_at}
 use Rattle.factor.proofs.CastLemmas.{scaled_less, scaled_whole}
 use Rattle.factor.proofs.load.scaled_entry.Goals as goal
 

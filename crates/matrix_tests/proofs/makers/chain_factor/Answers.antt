@@ -4,7 +4,8 @@ use Rattle.std.proofs.lemmas.Grind.{common_steps}
 use Rattle.std.proofs.lemmas.List.{get_or_past, get_or_default}
 use Rattle.lists.specs.Rising.{IsRising}
 use Rattle.lists.specs.Order.{IsOrder}
-use Rattle.factor_data.specs.Columns.{columns_of, IsFactor, contents}
+use Rattle.factor_data.specs.Columns.{columns_of, IsFactor}
+use Rattle.lists.specs.Lists.{contents}
 use Rattle.matrix_tests.proofs.makers.chain_factor.Goals as goal
 
 counted-rising : (rows : List ℕ) (from : ℕ) → ((s : ℕ) → s < length rows → slice_index rows s ≡ from + s) → IsRising rows

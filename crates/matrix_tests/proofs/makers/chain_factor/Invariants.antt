@@ -1,5 +1,5 @@
 use Rattle.std.proofs.Common.{◌≡◌, ◌<◌, ◌≤◌, ◌+◌, ◌*◌, ℕ, [], length, slice_index, slice_index_or}
-use Rattle.factor_data.specs.Columns.{contents}
+use Rattle.lists.specs.Lists.{contents}
 use Rattle.matrix_tests.proofs.makers.chain_factor.Given as goal
 
 abbrev pub invariant-loop-position : goal.invariant-loop-position
