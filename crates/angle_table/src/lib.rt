@@ -2,7 +2,7 @@
 #![tactic(auto)]
 
 ghost use Rattle.std.specs.Prelude.{◌≡◌, ◌*◌, ◌^◌, pos};
-ghost use Rattle.flex_num.specs.Division.{floor_of, ceil_of};
+ghost use Rattle.int_laws.specs.Division.{floor_of, ceil_of};
 ghost use Rattle.flex_interval.specs.Fraction.{Fraction, Within, scaled};
 ghost use Rattle.angle_table.specs.Pi.{pi_ends, IsPi};
 

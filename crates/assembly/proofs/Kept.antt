@@ -5,20 +5,20 @@ use Rattle.std.proofs.lemmas.Bool.{cases_eq}
 use Rattle.std.specs.Prelude.{◌↔◌, ◌<◌, slice_index_or, Contains}
 use Rattle.int_laws.proofs.Sums.{int_sums}
 use Rattle.int_laws.proofs.Products.{le_mul, sub-mul, mul_comm}
-use Rattle.flex_num.specs.Division.{IsFloor}
+use Rattle.int_laws.specs.Division.{IsFloor}
 use Rattle.flex_interval.specs.Ends.{Ends}
 use Rattle.flex_interval.specs.Fraction.{Within}
 use Rattle.member_set.specs.declared.members.Built.{Built}
 use Rattle.member_set.specs.declared.members.Law.{Law}
-use Rattle.member_set.specs.Members.{IsBuilt, node_count}
-use Rattle.member_set.specs.Realisation.{Realisation, IsRealisation, fraction}
+use Rattle.member_set.specs.Members.{IsBuilt, node_count, system}
+use Rattle.member_set.specs.Realisation.{Realisation, IsRealisation, fraction, every_member, exact_entry, entry_unit}
 use Rattle.sym_blocks.specs.Matrix.{Matrix, entry}
-use Rattle.assembly.specs.Stiffness.{HasPatternOf, AreJoined, upper_entry, exact_entry, entry_unit, IsNear}
+use Rattle.assembly.specs.Stiffness.{HasPatternOf, AreJoined, upper_entry, IsWithinRadius}
 use Rattle.flex_interval.specs.Operations.{middle_of, radius_of}
 use Rattle.assembly.specs.Filling.{PutsAt, IsFilled, KeepsFilled}
 
 -- a number of an interval is at most the radius away from the middle
-pub near_of : (e : Ends) (exact unit v w : ℤ) → IsFloor (e.lo +ℤ e.hi) (pos 2) v → w ≡ e.hi -ℤ v → Within e (fraction exact unit) → IsNear unit exact v w
+pub near_of : (e : Ends) (exact unit v w : ℤ) → IsFloor (e.lo +ℤ e.hi) (pos 2) v → w ≡ e.hi -ℤ v → Within e (fraction exact unit) → IsWithinRadius unit exact v w
 near_of e exact unit v w floor is within =
     let twice : v *ℤ pos 2 ≡ v +ℤ v = omega (arith, ints) in
     let half : (v -ℤ e.lo) ≤ℤ w = omega (arith, int_sums, twice, floor.at_most, is) in
@@ -28,14 +28,14 @@ near_of e exact unit v w floor is within =
 
 pub filled_from : (b : Built) (km rd km_new rd_new : Matrix) (row col : ℕ) (v w : ℤ) (e : Ends) → upper_entry b row col ≡ Ok e →
     IsFloor (e.lo +ℤ e.hi) (pos 2) v → v ≡ middle_of e → w ≡ radius_of e →
-    ((laws : List Law) (loads : List Ends) (r : Realisation) → IsRealisation b laws loads r → Within e (fraction (exact_entry r row col) (entry_unit r.denominator))) →
+    ((laws : List Law) (loads : List Ends) (r : Realisation) → IsRealisation (system b laws loads) r → Within e (fraction (exact_entry every_member r row col) (entry_unit r.denominator))) →
     pos 0 ≤ℤ w → PutsAt km km_new row col v → PutsAt rd rd_new row col w → IsFilled b km_new rd_new row col
 filled_from b km rd km_new rd_new row col v w e is floor middle radius within not_negative puts puts_too =
     record {
       are = record { enclosure = e; value = is; middle_is = puts.place ∙ middle; radius_is = puts_too.place ∙ radius };
       near = λ laws loads r real.
           rw (puts.place, puts_too.place)
-          (near_of e (exact_entry r row col) (entry_unit r.denominator) v w floor (radius ∙ ap (λ (z : ℤ). e.hi -ℤ z) (sym middle)) (within laws loads r real));
+          (near_of e (exact_entry every_member r row col) (entry_unit r.denominator) v w floor (radius ∙ ap (λ (z : ℤ). e.hi -ℤ z) (sym middle)) (within laws loads r real));
       not_negative = rw puts_too.place not_negative;
     }
 

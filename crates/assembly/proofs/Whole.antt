@@ -6,23 +6,22 @@ use Rattle.sym_blocks.specs.Matrix.{Matrix, pattern_of, HasBlock}
 use Rattle.assembly.specs.Filling.{IsFilled, IsWideFrom}
 use Rattle.std.proofs.lemmas.Bool.Decides.{nat_tests}
 use Rattle.std.proofs.lemmas.Grind.{get_or_default_zero}
-use Rattle.flex_num.specs.Division.{floor_of}
+use Rattle.int_laws.specs.Division.{floor_of}
 use Rattle.flex_interval.specs.Operations.{add_of}
 use Rattle.member_set.specs.declared.members.Member.{Member}
 use Rattle.member_set.specs.declared.members.Built.{Built}
-use Rattle.member_set.specs.Members.{nothing, Touches, IsBuilt, row_count, node_count, member_of, members_at}
+use Rattle.member_set.specs.Members.{nothing, Touches, IsBuilt, row_count, node_count, member_of, members_at, system}
 use Rattle.member_set.specs.Interval.{Outcome, in_turn}
 use Rattle.int_laws.proofs.Sums.{int_sums}
-use Rattle.int_laws.proofs.Products.{zero-mul, mul_comm, mul_swap}
+use Rattle.int_laws.proofs.Products.{between_zeros, mul_turn, zero-mul, mul_comm, mul_swap}
 use Rattle.int_laws.proofs.SumLaws.{sum_below-zero, sum_below-same}
 use Rattle.std.proofs.Common.{ℤ, pos, ◌*ℤ◌, ◌≤ℤ◌}
 use Rattle.flex_interval.specs.Ends.{Ends}
 use Rattle.member_set.specs.declared.members.Law.{Law}
-use Rattle.member_set.specs.Realisation.{Realisation, IsRealisation}
-use Rattle.member_set.proofs.Rows.{nothing_is_zero}
+use Rattle.member_set.specs.Realisation.{Realisation, IsRealisation, every_member, exact_entry, entry_unit}
 use Rattle.sym_blocks.specs.Matrix.{entry, node_count as nodes_of, IsSymmetricByBlocks}
 use Rattle.assembly.proofs.Outside.{off_node, product_zero}
-use Rattle.assembly.specs.Stiffness.{AreAssembled, exact_entry, entry_unit, IsNear}
+use Rattle.assembly.specs.Stiffness.{AreAssembled, IsWithinRadius}
 use Rattle.assembly.specs.Stiffness.{stiffness_at, HasPatternOf, IsFirstWide, touches, entry_term, entry_sum, upper_entry, Joins, AreJoined}
 
 nothing_sum : (term : ℕ → Outcome) (n : ℕ) → ((t : ℕ) → t < n → term t ≡ Ok nothing) → in_turn add_of nothing term n ≡ Ok nothing
@@ -111,8 +110,8 @@ pub on_err : {T E : Type 0} (r : Result T E) (P : Type 0) → is_err r ≡ true 
 on_err (Ok t) P e h = grind arith
 on_err (Err x) P e h = h
 
-exact_zero : (b : Built) → IsBuilt b → (laws : List Law) (loads : List Ends) (r : Realisation) → IsRealisation b laws loads r → (i j : ℕ) → i / 6 < node_count b →
-    (AreJoined b (i / 6) (j / 6) → ⊥) → exact_entry r i j ≡ pos 0
+exact_zero : (b : Built) → IsBuilt b → (laws : List Law) (loads : List Ends) (r : Realisation) → IsRealisation (system b laws loads) r → (i j : ℕ) → i / 6 < node_count b →
+    (AreJoined b (i / 6) (j / 6) → ⊥) → exact_entry every_member r i j ≡ pos 0
 exact_zero b built laws loads r real i j node_inside apart =
     sum_below-zero r.members _
     (λ k inside.
@@ -120,7 +119,8 @@ exact_zero b built laws loads r real i j node_inside apart =
     let touched : Touches (member_of b k) (i / 6) → (r.member k).shape i *ℤ ((r.member k).stiffness *ℤ (r.member k).shape j) ≡ pos 0 =
     λ touch.
     let off = not_touching (member_of b k) (i / 6) (j / 6) (λ joins. apart (inr (k, omega (arith, real.all_members, inside), joins))) touch (λ e. apart (inl (e, node_inside))) in
-    let none = nothing_is_zero _ r.denominator (rw (off_node (member_of b k) j off) at (within.shape_within j)) in
+    let w = rw (off_node (member_of b k) j off) at (within.shape_within j) in
+    let none = between_zeros ((r.member k).shape j) r.denominator w.at_least w.at_most in
     ap (λ (z : ℤ). (r.member k).shape i *ℤ ((r.member k).stiffness *ℤ z)) none ∙ product_zero ((r.member k).shape i) (r.member k).stiffness in
     let first : ((member_of b k).n1 ≡ i / 6) ⊎ ((member_of b k).n1 ≢ i / 6) = search arith in
     let second : ((member_of b k).n2 ≡ i / 6) ⊎ ((member_of b k).n2 ≢ i / 6) = search arith in
@@ -130,12 +130,13 @@ exact_zero b built laws loads r real i j node_inside apart =
         | inl e ↦ touched (inr e)
         | inr not_second ↦
             let off = not_of (member_of b k) (i / 6) not_first not_second in
-            let none = nothing_is_zero _ r.denominator (rw (off_node (member_of b k) i off) at (within.shape_within i)) in
+            let w = rw (off_node (member_of b k) i off) at (within.shape_within i) in
+            let none = between_zeros ((r.member k).shape i) r.denominator w.at_least w.at_most in
             ap (λ (z : ℤ). z *ℤ ((r.member k).stiffness *ℤ (r.member k).shape j)) none ∙ zero-mul ((r.member k).stiffness *ℤ (r.member k).shape j)
       ]
     ])
 
-near_zero : (unit : ℤ) → IsNear unit (pos 0) (pos 0) (pos 0)
+near_zero : (unit : ℤ) → IsWithinRadius unit (pos 0) (pos 0) (pos 0)
 near_zero unit = omega (arith, int_sums, mul_comm unit (pos 0), zero-mul unit)
 
 filled_all : (b : Built) → IsBuilt b → (km rd : Matrix) → IsSymmetricByBlocks km → IsSymmetricByBlocks rd → HasPatternOf km b → HasPatternOf rd b → (i j : ℕ) → i < row_count b →
@@ -155,12 +156,9 @@ filled_all b built km rd middles radii pattern pattern_too i j inside filled =
           }
     ]
 
-exact_symmetric : (r : Realisation) (i j : ℕ) → exact_entry r i j ≡ exact_entry r j i
+exact_symmetric : (r : Realisation) (i j : ℕ) → exact_entry every_member r i j ≡ exact_entry every_member r j i
 exact_symmetric r i j =
-    sum_below-same r.members _ _ (λ k inside. turned ((r.member k).shape i) (r.member k).stiffness ((r.member k).shape j))
-  where
-    turned : (a s b : ℤ) → a *ℤ (s *ℤ b) ≡ b *ℤ (s *ℤ a)
-    turned a s b = mul_swap a s b ∙ ap (λ (z : ℤ). s *ℤ z) (mul_comm a b) ∙ mul_swap s b a
+    sum_below-same r.members _ _ (λ k inside. mul_turn ((r.member k).shape i) (r.member k).stiffness ((r.member k).shape j))
 
 -- a node that is joined is there
 node_there : (b : Built) (n k : ℕ) → IsBuilt b → AreJoined b n k → n < node_count b
@@ -199,8 +197,8 @@ assembled b built km rd middles radii pattern pattern_too filled =
 
 pub all_near : (b : Built) → IsBuilt b → (km rd : Matrix) → IsSymmetricByBlocks km → IsSymmetricByBlocks rd → HasPatternOf km b → HasPatternOf rd b →
     ((i j : ℕ) → i < row_count b → i ≤ j → HasBlock km (i / 6) (j / 6) → IsFilled b km rd i j) →
-    (laws : List Law) (loads : List Ends) (r : Realisation) → IsRealisation b laws loads r → (i j : ℕ) → i < row_count b → j < row_count b →
-    IsNear (entry_unit r.denominator) (exact_entry r i j) (entry km i j) (entry rd i j)
+    (laws : List Law) (loads : List Ends) (r : Realisation) → IsRealisation (system b laws loads) r → (i j : ℕ) → i < row_count b → j < row_count b →
+    IsWithinRadius (entry_unit r.denominator) (exact_entry every_member r i j) (entry km i j) (entry rd i j)
 all_near b built km rd middles radii pattern pattern_too filled laws loads r real i j i_inside j_inside =
     let side : (i ≤ j) ⊎ (j < i) = search arith in
     elim side [

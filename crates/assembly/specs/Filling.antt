@@ -3,10 +3,10 @@ use Rattle.std.specs.Prelude.{ℕ, ◌<◌, ◌≤◌, ◌≡◌, List, ℤ, pos
 use Rattle.flex_interval.specs.Ends.{Ends}
 use Rattle.member_set.specs.declared.members.Built.{Built}
 use Rattle.member_set.specs.declared.members.Law.{Law}
-use Rattle.member_set.specs.Members.{row_count}
-use Rattle.member_set.specs.Realisation.{Realisation, IsRealisation}
+use Rattle.member_set.specs.Members.{row_count, system}
+use Rattle.member_set.specs.Realisation.{Realisation, IsRealisation, every_member, exact_entry, entry_unit}
 use Rattle.sym_blocks.specs.Matrix.{Matrix, entry}
-use Rattle.assembly.specs.Stiffness.{AreOf, upper_entry, exact_entry, entry_unit, IsNear}
+use Rattle.assembly.specs.Stiffness.{AreOf, upper_entry, IsWithinRadius}
 
 -- an entry and its mirror are v, and every other and the pattern stay
 pub record PutsAt (old new : Matrix) (row col : ℕ) (v : ℤ) : Type 0 where
@@ -16,8 +16,8 @@ pub record PutsAt (old new : Matrix) (row col : ℕ) (v : ℤ) : Type 0 where
 
 -- the entry of each realisation is near
 abbrev pub AreNear : Built → ℕ → ℕ → ℤ → ℤ → Type 0
-AreNear b i j middle radius = (laws : List Law) (loads : List Ends) (r : Realisation) → IsRealisation b laws loads r →
-    IsNear (entry_unit r.denominator) (exact_entry r i j) middle radius
+AreNear b i j middle radius = (laws : List Law) (loads : List Ends) (r : Realisation) → IsRealisation (system b laws loads) r →
+    IsWithinRadius (entry_unit r.denominator) (exact_entry every_member r i j) middle radius
 
 -- the middle and the radius of an entry stand in the matrices; the radius is not below 0
 pub record IsFilled (b : Built) (middles radii : Matrix) (i j : ℕ) : Type 0 where

@@ -92,14 +92,6 @@ NamesFirstWide b faults.NoMemory = ⊤
 
 -- ---- what the matrices enclose
 
--- the entry of a realisation's matrix: the sum over all members of W_row K W_col, 2^112 q^3 times the entry
-abbrev pub exact_entry : Realisation → ℕ → ℕ → ℤ
-exact_entry r row col = sum_below r.members (λ k. (r.member k).shape row *ℤ ((r.member k).stiffness *ℤ (r.member k).shape col))
-
--- 2^112 q^3
-abbrev pub entry_unit : ℤ → ℤ
-entry_unit q = pos (2 ^ 112) *ℤ ((q *ℤ q) *ℤ q)
-
 -- exact / unit is at most the radius away from the middle
-abbrev pub IsNear : ℤ → ℤ → ℤ → ℤ → Type 0
-IsNear unit exact middle radius = pos (unsigned_abs (exact -ℤ (unit *ℤ middle))) ≤ℤ (unit *ℤ radius)
+abbrev pub IsWithinRadius : ℤ → ℤ → ℤ → ℤ → Type 0
+IsWithinRadius unit exact middle radius = pos (unsigned_abs (exact -ℤ (unit *ℤ middle))) ≤ℤ (unit *ℤ radius)

@@ -3,12 +3,12 @@ ghost use Rattle.flex_interval.specs.Ends.{Ends};
 ghost use Rattle.flex_interval.specs.Fraction.{Within};
 ghost use Rattle.flex_interval.specs.Operations.{and_then, add_of, mul_of, middle_of, radius_of};
 ghost use Rattle.member_set.specs.declared.members.Law.{Law};
-ghost use Rattle.member_set.specs.Members.{IsBuilt, shape_at, row_count, members_at};
-ghost use Rattle.member_set.specs.Realisation.{Realisation, IsRealisation, fraction};
-ghost use Rattle.assembly.specs.Stiffness.{touches, member_entry, entry_sum, limited_entry, upper_entry, exact_entry, entry_unit};
+ghost use Rattle.member_set.specs.Members.{IsBuilt, shape_at, row_count, members_at, system};
+ghost use Rattle.member_set.specs.Realisation.{Realisation, IsRealisation, fraction, every_member, exact_entry, entry_unit};
+ghost use Rattle.assembly.specs.Stiffness.{touches, member_entry, entry_sum, limited_entry, upper_entry};
 
 use flex_interval::{Iv, IvFault, middle, radius};
-use member_set::{Built, Member, shape};
+use member_set::{Built, Member, faults_stay, members_at, shape};
 
 /// The middle and the radius of an entry together are below this, in units of 2^-20 N/m.
 const ENTRY_LIMIT: u128 = 1 << 60;
@@ -19,8 +19,8 @@ pub(crate) fn upper_entry(b: &Built, row: u32, col: u32) -> Result<Iv, IvFault>
     requires built { IsBuilt b.now }
     requires row_in_range { row < row_count b.now }
     ensures value { result ≡ upper_entry b.now row col }
-    ensures within { IfOk result (λ e. (laws : List Law) (loads : List Ends) (r : Realisation) → IsRealisation b.now laws loads r →
-        Within e (fraction (exact_entry r row col) (entry_unit r.denominator))) }
+    ensures within { IfOk result (λ e. (laws : List Law) (loads : List Ends) (r : Realisation) → IsRealisation (system b.now laws loads) r →
+        Within e (fraction (exact_entry every_member r row col) (entry_unit r.denominator))) }
 {
     limited(entry_sum(b, row, col)?)
 }
@@ -42,24 +42,15 @@ fn entry_sum(b: &Built, row: u32, col: u32) -> Result<Iv, IvFault>
     requires built { IsBuilt b.now }
     requires row_in_range { row < row_count b.now }
     ensures value { result ≡ entry_sum b.now row col }
-    ensures within { IfOk result (λ e. (laws : List Law) (loads : List Ends) (r : Realisation) → IsRealisation b.now laws loads r →
-        Within e (fraction (exact_entry r row col) (entry_unit r.denominator))) }
+    ensures within { IfOk result (λ e. (laws : List Law) (loads : List Ends) (r : Realisation) → IsRealisation (system b.now laws loads) r →
+        Within e (fraction (exact_entry every_member r row col) (entry_unit r.denominator))) }
 {
+    faults_stay();
     let mut total = flex_interval::point(0);
     for &k in members_at(b, row) {
         total = plus_member(&b.members.as_slice()[k as usize], row, col, total)?;
     }
     Ok(total)
-}
-
-/// The numbers of the members at a row's node.
-fn members_at(b: &Built, row: u32) -> &[u32]
-    requires built { IsBuilt b.now }
-    requires row_in_range { row < row_count b.now }
-    ensures numbers { result.now ≡ members_at b.now (row / 6) }
-    ensures in_range { (t : ℕ) → t < length result.now → slice_index result.now t < length b.now.members }
-{
-    b.at.as_slice()[(row / 6) as usize].as_slice()
 }
 
 /// A sum and what a member gives to the entry.

@@ -5,13 +5,12 @@ use Rattle.int_laws.proofs.Products.{mul_swap}
 use Rattle.flex_interval.specs.Ends.{Ends}
 use Rattle.member_set.specs.declared.members.Built.{Built}
 use Rattle.member_set.specs.declared.members.Law.{Law}
-use Rattle.member_set.specs.Members.{node_count as nodes_of, row_count}
-use Rattle.member_set.specs.Realisation.{Realisation, IsRealisation}
+use Rattle.member_set.specs.Members.{node_count as nodes_of, row_count, system}
+use Rattle.member_set.specs.Realisation.{Realisation, IsRealisation, every_member, exact_entry, entry_unit}
 use Rattle.sym_blocks.specs.Matrix.{Matrix, node_count, entry}
-use Rattle.assembly.specs.Stiffness.{exact_entry, entry_unit, IsNear}
+use Rattle.assembly.specs.Stiffness.{IsWithinRadius}
 use Rattle.int_laws.specs.Matrices.{absolute}
-use Rattle.certificate.specs.Definiteness.{SymmetricFractions, IsDefiniteWith}
-use Rattle.certificate.specs.Enclosure.{member_sum}
+use Rattle.bound_laws.specs.Definiteness.{SymmetricFractions, IsDefiniteWith}
 use Rattle.certificate.specs.Bounds.{IsDefiniteRealisation}
 use Rattle.case_run.specs.Steps.{AreDefinite}
 
@@ -27,16 +26,12 @@ definite_at middles radii lambda rows same definite =
     IsDefiniteWith n lambda k)
     same definite
 
-own_entry : (r : Realisation) (i j : ℕ) → member_sum r i j ≡ exact_entry r i j
-own_entry r i j =
-    sum_below-same r.members _ _ (λ k below. mul_swap ((r.member k).stiffness) ((r.member k).shape i) ((r.member k).shape j))
-
 pub definite_realisation : (b : Built) (laws : List Law) (loads : List Ends) (r : Realisation) (middles radii : Matrix) (lambda : ℤ) →
-    node_count middles ≡ nodes_of b → AreDefinite middles radii lambda → IsRealisation b laws loads r →
-    ((i j : ℕ) → i < row_count b → j < row_count b → IsNear (entry_unit r.denominator) (exact_entry r i j) (entry middles i j) (entry radii i j)) →
+    node_count middles ≡ nodes_of b → AreDefinite middles radii lambda → IsRealisation (system b laws loads) r →
+    ((i j : ℕ) → i < row_count b → j < row_count b → IsWithinRadius (entry_unit r.denominator) (exact_entry every_member r i j) (entry middles i j) (entry radii i j)) →
     IsDefiniteRealisation r lambda
 definite_realisation b laws loads r middles radii lambda same definite real near = λ k own.
     definite_at middles radii lambda r.rows (omega (arith, real.all_rows)) definite k
     (λ i j i_in j_in.
-    rw (own.entry i j i_in j_in, own.unit, own_entry r i j)
+    rw (own.entry i j i_in j_in, own.unit)
     (near i j (omega (arith, real.all_rows)) (omega (arith, real.all_rows))))

@@ -5,7 +5,7 @@ use Rattle.int_laws.proofs.Sums.{int_sums}
 use Rattle.flex_interval.specs.Ends.{Ends}
 use Rattle.member_set.specs.declared.members.Law.{Law}
 use Rattle.member_set.specs.declared.members.Built.{Built}
-use Rattle.member_set.specs.Members.{nothing, row_count}
+use Rattle.member_set.specs.Members.{nothing, row_count, system}
 use Rattle.member_set.specs.Interval.{residual_of}
 use Rattle.model_types.specs.Lists.{Lists}
 use Rattle.model_types.specs.declared.answers.Bounds.{Bounds}
@@ -14,7 +14,7 @@ use Rattle.model_types.specs.declared.answers.CaseAnswer.{CaseAnswer}
 use Rattle.model_types.specs.declared.answers.CaseAnswer.TheVariants.{Certified, Uncertified}
 use Rattle.sym_blocks.specs.Matrix.{Matrix, entry}
 use Rattle.assembly.specs.Stiffness.{AreAssembled}
-use Rattle.factor_data.specs.Columns.{ColumnLists}
+use Rattle.factor_data.specs.Columns.{ColumnLists, entry as factor_entry}
 use Rattle.lists.specs.Order.{IsOrder}
 use Rattle.solve.specs.Refinement.{problem, LeadTo, IsTooWide}
 use Rattle.certificate.specs.declared.bounds.Enclosure.{Enclosure}
@@ -39,7 +39,7 @@ enclosure-same e f us forces states =
     ∙ ap (λ (x : List Bool). enclosure f.u f.force x) states
 
 bounds-one : (b : Built) (laws : List Law) (loads : List Ends) (u : List ℤ) (lambda : ℤ) (e f : Enclosure) →
-    AreBounds b laws loads u lambda e → AreBounds b laws loads u lambda f → e ≡ f
+    AreBounds (system b laws loads) u lambda e → AreBounds (system b laws loads) u lambda f → e ≡ f
 bounds-one b laws loads u lambda e f one other =
     enclosure-same e f
     (ext_get_or nothing e.u f.u (one.one_displacement_each ∙ sym other.one_displacement_each)
@@ -51,11 +51,11 @@ bounds-one b laws loads u lambda e f one other =
 below_and_not : (x limit : ℤ) → x <ℤ limit → limit ≤ℤ x → ⊥
 below_and_not x limit below not_below = absurd (omega (arith, int_sums, below, not_below))
 
-bounds-exclude : (b : Built) (laws : List Law) (loads : List Ends) (u : List ℤ) (lambda : ℤ) → HasBounds b laws loads u lambda → HasNoBounds b laws loads u lambda → ⊥
-bounds-exclude b laws loads u lambda exist (no_residual row inside err) = not_both (residual_of b laws loads u row) (exist.residuals row inside) err
-bounds-exclude b laws loads u lambda exist (long reaches) = below_and_not (sum_of_squares b laws loads u) (pos (2 ^ 126)) exist.short reaches
-bounds-exclude b laws loads u lambda exist (far reaches) = below_and_not (displacement_radius b laws loads u lambda) (pos (2 ^ 60)) exist.near reaches
-bounds-exclude b laws loads u lambda exist (unsteady k inside reaches) = below_and_not (force_radius b laws loads u lambda k) (pos (2 ^ 60)) (exist.steady k inside) reaches
+bounds-exclude : (b : Built) (laws : List Law) (loads : List Ends) (u : List ℤ) (lambda : ℤ) → HasBounds (system b laws loads) u lambda → HasNoBounds (system b laws loads) u lambda → ⊥
+bounds-exclude b laws loads u lambda exist (no_residual row inside err) = not_both (residual_of (system b laws loads) u row) (exist.residuals row inside) err
+bounds-exclude b laws loads u lambda exist (long reaches) = below_and_not (sum_of_squares (system b laws loads) u) (pos (2 ^ 126)) exist.short reaches
+bounds-exclude b laws loads u lambda exist (far reaches) = below_and_not (displacement_radius (system b laws loads) u lambda) (pos (2 ^ 60)) exist.near reaches
+bounds-exclude b laws loads u lambda exist (unsteady k inside reaches) = below_and_not (force_radius (system b laws loads) u lambda k) (pos (2 ^ 60)) (exist.steady k inside) reaches
 
 -- ---- the whole model
 
@@ -132,15 +132,15 @@ rows-factor p b k f rows one = ap (λ (o : List ℕ). 6 * length o) one.order_is
 candidate-one : (m : Lists) (case : ℕ) (p : Plan) (b : Built) (k l r s : Matrix) (loads others : List Ends) (u v : List ℤ) → AreMatched p k l r s →
     row_count b ≡ 6 * length p.order → HasCandidate m case p b k loads u → HasCandidate m case p b l others v → u ≡ v
 candidate-one m case p b k l r s loads others u v same rows one other =
-    let there = subst (λ (x : List Ends). LeadTo (problem b (resting_laws b) x other.factor) 8 v) (sym (candidate-loads m case p b k l loads others u v one other)) other.candidate in
+    let there = subst (λ (x : List Ends). LeadTo (problem (system b (resting_laws b) x) other.factor.order (factor_entry other.factor)) 8 v) (sym (candidate-loads m case p b k l loads others u v one other)) other.candidate in
     lead-same b (resting_laws b) loads one.factor other.factor 8 u v (ordered-factor p k one.factor same.ordered one.factorised) (rows-factor p b k one.factor rows one.factorised)
     (alike-factors p b k l r s one.factor other.factor same rows one.factorised other.factorised) one.candidate there
 
 candidate-wide : (m : Lists) (case : ℕ) (p : Plan) (b : Built) (k l r s : Matrix) (loads others : List Ends) (u : List ℤ) (g : ColumnLists) → AreMatched p k l r s →
     row_count b ≡ 6 * length p.order → HasCandidate m case p b k loads u → AreLoads m case others → IsFactorAt p l (pos 0) g →
-    IsTooWide (problem b (resting_laws b) others g) → ⊥
+    IsTooWide (problem (system b (resting_laws b) others) g.order (factor_entry g)) → ⊥
 candidate-wide m case p b k l r s loads others u g same rows one loaded factorised wide =
-    let there = subst (λ (x : List Ends). IsTooWide (problem b (resting_laws b) x g)) (sym (loads-one m case loads others one.loaded loaded)) wide in
+    let there = subst (λ (x : List Ends). IsTooWide (problem (system b (resting_laws b) x) g.order (factor_entry g))) (sym (loads-one m case loads others one.loaded loaded)) wide in
     candidate-excludes b (resting_laws b) loads one.factor g u (ordered-factor p k one.factor same.ordered one.factorised) (rows-factor p b k one.factor rows one.factorised)
     (alike-factors p b k l r s one.factor g same rows one.factorised factorised) one.candidate there
 
@@ -149,8 +149,8 @@ enclosure-one : (m : Lists) (case : ℕ) (p : Plan) (b : Built) (k l r s : Matri
 enclosure-one m case p b k l r s x e f same rows one other =
     let loads = candidate-loads m case p b k l one.loads other.loads one.u other.u one.candidate other.candidate in
     let us = candidate-one m case p b k l r s one.loads other.loads one.u other.u same rows one.candidate other.candidate in
-    let there = subst (λ (u : List ℤ). AreBounds b (resting_laws b) one.loads u x f) (sym us)
-    (subst (λ (z : List Ends). AreBounds b (resting_laws b) z other.u x f) (sym loads) other.bounds) in
+    let there = subst (λ (u : List ℤ). AreBounds (system b (resting_laws b) one.loads) u x f) (sym us)
+    (subst (λ (z : List Ends). AreBounds (system b (resting_laws b) z) other.u x f) (sym loads) other.bounds) in
     bounds-one b (resting_laws b) one.loads one.u x e f one.bounds there
 
 own-excludes : (m : Lists) (case : ℕ) (p : Plan) (b : Built) (k l r s : Matrix) (x : ℤ) (e : Enclosure) (d : Cause) → AreMatched p k l r s →
@@ -163,8 +163,8 @@ own-excludes m case p b k l r s x e d same rows one (no_candidate loads g loaded
 own-excludes m case p b k l r s x e d same rows one (no_bounds loads u candidate (residual none)) =
     let same_loads = candidate-loads m case p b k l one.loads loads one.u u one.candidate candidate in
     let us = candidate-one m case p b k l r s one.loads loads one.u u same rows one.candidate candidate in
-    let there = subst (λ (v : List ℤ). HasNoBounds b (resting_laws b) one.loads v x) (sym us)
-    (subst (λ (z : List Ends). HasNoBounds b (resting_laws b) z u x) (sym same_loads) none) in
+    let there = subst (λ (v : List ℤ). HasNoBounds (system b (resting_laws b) one.loads) v x) (sym us)
+    (subst (λ (z : List Ends). HasNoBounds (system b (resting_laws b) z) u x) (sym same_loads) none) in
     bounds-exclude b (resting_laws b) one.loads one.u x one.bounds.exist there
 
 own-one : (m : Lists) (case : ℕ) (p : Plan) (b : Built) (k l r s : Matrix) (x : ℤ) (c d : Cause) → AreMatched p k l r s →

@@ -4,7 +4,7 @@ use Rattle.std.proofs.Common.{◌≡◌, ℕ, zero, suc, ◌+◌, ◌*◌, ◌/�
 use Rattle.std.proofs.lemmas.Bool.{cases_lt}
 use Rattle.std.proofs.lemmas.Int.{ints}
 use Rattle.int_laws.proofs.SumLaws.{sum_below-same}
-use Rattle.flex_num.specs.Division.{nearest_of}
+use Rattle.int_laws.specs.Division.{nearest_of}
 use Rattle.flex_num.specs.Root.{root_of}
 use Rattle.model_types.specs.declared.answers.Cause.{Cause}
 use Rattle.model_types.specs.declared.answers.Cause.TheVariants as causes

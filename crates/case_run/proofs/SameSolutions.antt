@@ -7,11 +7,11 @@ use Rattle.int_laws.specs.Sums.{sum_below}
 use Rattle.int_laws.proofs.Sums.{int_sums}
 use Rattle.int_laws.proofs.SumLaws.{sum_below-same, sum_below-nonnegative}
 use Rattle.cholesky_laws.proofs.SumsLemmas.{sum_below-split}
-use Rattle.flex_num.specs.Division.{nearest_of}
+use Rattle.int_laws.specs.Division.{nearest_of}
 use Rattle.flex_interval.specs.Ends.{Ends}
 use Rattle.member_set.specs.declared.members.Law.{Law}
 use Rattle.member_set.specs.declared.members.Built.{Built}
-use Rattle.member_set.specs.Members.{row_count}
+use Rattle.member_set.specs.Members.{row_count, system}
 use Rattle.member_set.specs.Interval.{Outcome, residual_of}
 use Rattle.factor_data.specs.Columns.{entry}
 use Rattle.factor_data.specs.Columns.{ColumnLists}
@@ -21,7 +21,7 @@ use Rattle.factor_data.proofs.OrderLemmas.{position-below, row-of_position, row-
 use Rattle.solve.specs.Substitution.{at, IsForwardBelow, IsForward, ForwardBreaks, forward_size, IsBackwardFrom, IsBackward, BackwardBreaks}
 use Rattle.int_laws.specs.Matrices.{Entries, Vector, absolute}
 use Rattle.solve.specs.Numerators.{past}
-use Rattle.solve.specs.Refinement.{AreMiddles, HasNoResidual, IsScale, HasNoRoom, forward_side, backward_side, IsMoved, MovesTooFar, problem, IsTurn, TurnBreaks, no_residual, no_room, forward_broad, backward_broad, too_far, LeadTo, IsTooWide}
+use Rattle.solve.specs.Refinement.{AreMiddles, HasNoResidual, HasNoRoom, forward_side, backward_side, IsMoved, MovesTooFar, problem, IsTurn, TurnBreaks, no_residual, no_room, forward_broad, backward_broad, too_far, LeadTo, IsTooWide, IsScaling}
 use Rattle.flex_interval.specs.Operations.{middle_of}
 use Rattle.solve.proofs.ColumnsTaken.{past-before}
 
@@ -137,16 +137,16 @@ middles-exclude n residual r one none =
     let a = one.middle none.row none.inside in
     not_err (residual none.row) a.interval a.found none.none
 
-scale-same : (r s : List ℤ) (d e : ℕ) → r ≡ s → IsScale r d → IsScale s e → d ≡ e
+scale-same : (r s : List ℤ) (d e : ℕ) → r ≡ s → IsScaling r d → IsScaling s e → d ≡ e
 scale-same r s d e same one other =
-    let there = subst (λ (x : List ℤ). IsScale x d) same one in
+    let there = subst (λ (x : List ℤ). IsScaling x d) same one in
     let up = other.greatest d there.at_most there.room in
     let down = there.greatest e other.at_most other.room in
     omega arith
 
-scale-excludes : (r s : List ℤ) (d : ℕ) → r ≡ s → IsScale r d → HasNoRoom s → ⊥
+scale-excludes : (r s : List ℤ) (d : ℕ) → r ≡ s → IsScaling r d → HasNoRoom s → ⊥
 scale-excludes r s d same one none =
-    let there = subst (λ (x : List ℤ). IsScale x d) same one in
+    let there = subst (λ (x : List ℤ). IsScaling x d) same one in
     let room = there.room none.row none.inside in
     let power : 1 ≤ 2 ^ d = pow_pos d in
     let most = mul-le-mul_left (unsigned_abs (at s none.row)) power in
@@ -190,34 +190,34 @@ sides-backward : (y z : List ℤ) (d e k : ℕ) → y ≡ z → d ≡ e → back
 sides-backward y z d e k numbers digits = ap (λ (x : List ℤ). backward_side x d k) numbers ∙ ap (λ (x : ℕ). backward_side z x k) digits
 
 pub turn-same : (b : Built) (laws : List Law) (loads : List Ends) (f g : ColumnLists) (u v w : List ℤ) → IsOrder f.order → 6 * length f.order ≡ row_count b →
-    AreAlikeFactors (row_count b) f g → IsTurn (problem b laws loads f) u v → IsTurn (problem b laws loads g) u w → v ≡ w
+    AreAlikeFactors (row_count b) f g → IsTurn (problem (system b laws loads) f.order (entry f)) u v → IsTurn (problem (system b laws loads) g.order (entry g)) u w → v ≡ w
 turn-same b laws loads f g u v w ordered size alike one two =
     let n = row_count b in
-    let r = middles-same n (residual_of b laws loads u) one.r two.r one.middles two.middles in
+    let r = middles-same n (residual_of (system b laws loads) u) one.r two.r one.middles two.middles in
     let digits = scale-same one.r two.r one.digits two.digits r one.scale two.scale in
     let y = forward-same n (entry f) (entry g) _ _ one.y two.y alike.entries (λ k l. sides-forward f.order g.order one.r two.r one.digits two.digits k alike.order r digits) one.forward two.forward in
     let z = backward-same n (entry f) (entry g) _ _ one.z two.z alike.entries (λ k l. sides-backward one.y two.y one.digits two.digits k y digits) one.backward two.backward in
     moved-same n f.order g.order u one.z two.z v w ordered size alike.order z one.moved two.moved
 
 turn-excludes : (b : Built) (laws : List Law) (loads : List Ends) (f g : ColumnLists) (u v : List ℤ) → IsOrder f.order → 6 * length f.order ≡ row_count b →
-    AreAlikeFactors (row_count b) f g → IsTurn (problem b laws loads f) u v → TurnBreaks (problem b laws loads g) u → ⊥
-turn-excludes b laws loads f g u v ordered size alike one (no_residual none) = middles-exclude (row_count b) (residual_of b laws loads u) one.r one.middles none
+    AreAlikeFactors (row_count b) f g → IsTurn (problem (system b laws loads) f.order (entry f)) u v → TurnBreaks (problem (system b laws loads) g.order (entry g)) u → ⊥
+turn-excludes b laws loads f g u v ordered size alike one (no_residual none) = middles-exclude (row_count b) (residual_of (system b laws loads) u) one.r one.middles none
 turn-excludes b laws loads f g u v ordered size alike one (no_room r middles none) =
-    scale-excludes one.r r one.digits (middles-same (row_count b) (residual_of b laws loads u) one.r r one.middles middles) one.scale none
+    scale-excludes one.r r one.digits (middles-same (row_count b) (residual_of (system b laws loads) u) one.r r one.middles middles) one.scale none
 turn-excludes b laws loads f g u v ordered size alike one (forward_broad r digits middles scale breaks) =
     let n = row_count b in
-    let same = middles-same n (residual_of b laws loads u) one.r r one.middles middles in
+    let same = middles-same n (residual_of (system b laws loads) u) one.r r one.middles middles in
     let scales = scale-same one.r r one.digits digits same one.scale scale in
     forward-excludes n (entry f) (entry g) _ _ one.y alike.entries (λ k l. sides-forward f.order g.order one.r r one.digits digits k alike.order same scales) one.forward breaks
 turn-excludes b laws loads f g u v ordered size alike one (backward_broad r digits y middles scale forward breaks) =
     let n = row_count b in
-    let same = middles-same n (residual_of b laws loads u) one.r r one.middles middles in
+    let same = middles-same n (residual_of (system b laws loads) u) one.r r one.middles middles in
     let scales = scale-same one.r r one.digits digits same one.scale scale in
     let ys = forward-same n (entry f) (entry g) _ _ one.y y alike.entries (λ k l. sides-forward f.order g.order one.r r one.digits digits k alike.order same scales) one.forward forward in
     backward-excludes n (entry f) (entry g) _ _ one.z alike.entries (λ k l. sides-backward one.y y one.digits digits k ys scales) one.backward breaks
 turn-excludes b laws loads f g u v ordered size alike one (too_far r digits y z middles scale forward backward far) =
     let n = row_count b in
-    let same = middles-same n (residual_of b laws loads u) one.r r one.middles middles in
+    let same = middles-same n (residual_of (system b laws loads) u) one.r r one.middles middles in
     let scales = scale-same one.r r one.digits digits same one.scale scale in
     let ys = forward-same n (entry f) (entry g) _ _ one.y y alike.entries (λ k l. sides-forward f.order g.order one.r r one.digits digits k alike.order same scales) one.forward forward in
     let zs = backward-same n (entry f) (entry g) _ _ one.z z alike.entries (λ k l. sides-backward one.y y one.digits digits k ys scales) one.backward backward in
@@ -225,26 +225,26 @@ turn-excludes b laws loads f g u v ordered size alike one (too_far r digits y z 
 
 -- ---- the turns
 pub lead-same : (b : Built) (laws : List Law) (loads : List Ends) (f g : ColumnLists) (n : ℕ) (v w : List ℤ) → IsOrder f.order → 6 * length f.order ≡ row_count b →
-    AreAlikeFactors (row_count b) f g → LeadTo (problem b laws loads f) n v → LeadTo (problem b laws loads g) n w → v ≡ w
+    AreAlikeFactors (row_count b) f g → LeadTo (problem (system b laws loads) f.order (entry f)) n v → LeadTo (problem (system b laws loads) g.order (entry g)) n w → v ≡ w
 lead-same b laws loads f g zero v w ordered size alike one two = one ∙ sym two
 lead-same b laws loads f g (suc n) v w ordered size alike one two =
     let before = lead-same b laws loads f g n one.0 two.0 ordered size alike one.1 two.1 in
-    turn-same b laws loads f g two.0 v w ordered size alike (subst (λ (u : List ℤ). IsTurn (problem b laws loads f) u v) before one.2) two.2
+    turn-same b laws loads f g two.0 v w ordered size alike (subst (λ (u : List ℤ). IsTurn (problem (system b laws loads) f.order (entry f)) u v) before one.2) two.2
 
-lead-before : (b : Built) (laws : List Law) (loads : List Ends) (f : ColumnLists) (n t : ℕ) (v : List ℤ) → t < n → LeadTo (problem b laws loads f) n v →
-    (u : List ℤ) × LeadTo (problem b laws loads f) t u × ((w : List ℤ) × IsTurn (problem b laws loads f) u w)
+lead-before : (b : Built) (laws : List Law) (loads : List Ends) (f : ColumnLists) (n t : ℕ) (v : List ℤ) → t < n → LeadTo (problem (system b laws loads) f.order (entry f)) n v →
+    (u : List ℤ) × LeadTo (problem (system b laws loads) f.order (entry f)) t u × ((w : List ℤ) × IsTurn (problem (system b laws loads) f.order (entry f)) u w)
 lead-before b laws loads f zero t v below lead = absurd (omega arith)
 lead-before b laws loads f (suc n) t v below lead =
     elim (cases_lt t n) [
       | inl less ↦ lead-before b laws loads f n t lead.0 less lead.1
       | inr not_less ↦
           let here : n ≡ t = omega arith in
-          (lead.0, subst (λ (m : ℕ). LeadTo (problem b laws loads f) m lead.0) here lead.1, (v, lead.2))
+          (lead.0, subst (λ (m : ℕ). LeadTo (problem (system b laws loads) f.order (entry f)) m lead.0) here lead.1, (v, lead.2))
     ]
 
 pub candidate-excludes : (b : Built) (laws : List Law) (loads : List Ends) (f g : ColumnLists) (v : List ℤ) → IsOrder f.order → 6 * length f.order ≡ row_count b →
-    AreAlikeFactors (row_count b) f g → LeadTo (problem b laws loads f) 8 v → IsTooWide (problem b laws loads g) → ⊥
+    AreAlikeFactors (row_count b) f g → LeadTo (problem (system b laws loads) f.order (entry f)) 8 v → IsTooWide (problem (system b laws loads) g.order (entry g)) → ⊥
 candidate-excludes b laws loads f g v ordered size alike lead wide =
     let before = lead-before b laws loads f 8 wide.turns v wide.before lead in
     let same = lead-same b laws loads f g wide.turns before.0 wide.u ordered size alike before.1 wide.reached in
-    turn-excludes b laws loads f g wide.u before.2.0 ordered size alike (subst (λ (u : List ℤ). IsTurn (problem b laws loads f) u before.2.0) same before.2.1) wide.breaks
+    turn-excludes b laws loads f g wide.u before.2.0 ordered size alike (subst (λ (u : List ℤ). IsTurn (problem (system b laws loads) f.order (entry f)) u before.2.0) same before.2.1) wide.breaks

@@ -12,7 +12,7 @@ use Rattle.factor_data.specs.Columns.{entry}
 use Rattle.factor_data.specs.Columns.{ColumnLists}
 use Rattle.factor_data.proofs.OrderLemmas.{position-below}
 use Rattle.int_laws.specs.Matrices.{absolute, scalar_matrix}
-use Rattle.certificate.specs.Definiteness.{CholeskyTest, residual, row_margin}
+use Rattle.bound_laws.specs.Definiteness.{CholeskyTest, residual, row_margin}
 use Rattle.certificate.specs.Checker.{test_of, product_sizes, RowIsRefused, IsVerdict}
 use Rattle.certificate.specs.declared.check.Verdict.{Verdict}
 use Rattle.certificate.specs.declared.check.Verdict.TheVariants.{Yes, No}

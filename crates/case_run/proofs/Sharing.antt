@@ -6,7 +6,7 @@ use Rattle.flex_interval.specs.Ends.{Ends}
 use Rattle.member_set.specs.declared.members.Built.{Built}
 use Rattle.member_set.specs.declared.members.Law.{Law}
 use Rattle.member_set.specs.declared.members.Member.{Member}
-use Rattle.member_set.specs.Members.{FitsBuilt, node_count as nodes_of, load_of}
+use Rattle.member_set.specs.Members.{IsSystem, node_count as nodes_of, load_of, system}
 use Rattle.member_set.specs.Realisation.{Realisation, IsRealisation}
 use Rattle.model_types.specs.Lists.{Lists}
 use Rattle.model_types.specs.declared.answers.Cause.{Cause}
@@ -23,11 +23,12 @@ factor_for b p middles shift Q (Ok f) nodes factor diagonal =
     record { nodes_are = ap (λ (xs : List ℕ). length xs) factor.order_is ∙ nodes; diagonal = diagonal }
 factor_for b p middles shift Q (Err cause) nodes factor diagonal = diagonal
 
--- a law for each member and a load for each row
-pub fits_structure : (m : Lists) (case : ℕ) (b : Built) (laws : List Law) (loads : List Ends) →
-    IsStructureOf m b → laws ≡ resting_laws b → AreLoads m case loads → FitsBuilt b laws loads
-fits_structure m case b laws loads structure resting loaded =
+-- the structure with its laws and loads is a system
+pub is_system : (m : Lists) (case : ℕ) (b : Built) (laws : List Law) (loads : List Ends) →
+    IsStructureOf m b → laws ≡ resting_laws b → AreLoads m case loads → IsSystem (system b laws loads)
+is_system m case b laws loads structure resting loaded =
     record {
+      built = structure.built;
       one_law_each = ap (λ (ls : List Law). length ls) resting ∙ length-replicate (length b.members) _;
       one_load_each = loaded.one_each ∙ ap (λ n. 6 * n) (sym structure.nodes);
     }
@@ -41,7 +42,7 @@ same_load m case loads others row loaded loaded_too inside =
 
 pub same_realisations : (m : Lists) (case : ℕ) (b other : Built) (loads others : List Ends) (r : Realisation) →
     IsStructureOf m b → IsStructureOf m other → AreLoads m case loads → AreLoads m case others →
-    IsRealisation other (resting_laws other) others r → IsRealisation b (resting_laws b) loads r
+    IsRealisation (system other (resting_laws other) others) r → IsRealisation (system b (resting_laws b) loads) r
 same_realisations m case b other loads others r structure structure_too loaded loaded_too real =
     let one = structure.members in
     let two = structure_too.members in

@@ -10,7 +10,7 @@ use Rattle.model_types.specs.declared.answers.CaseAnswer.{CaseAnswer}
 use Rattle.model_types.specs.declared.answers.CaseAnswer.TheVariants.{Certified, Uncertified}
 use Rattle.sym_blocks.specs.Matrix.{Matrix}
 use Rattle.assembly.specs.Stiffness.{AreAssembled}
-use Rattle.factor_data.specs.Columns.{ColumnLists}
+use Rattle.factor_data.specs.Columns.{ColumnLists, entry as factor_entry}
 use Rattle.solve.specs.Refinement.{problem, IsCandidate}
 use Rattle.certificate.specs.declared.bounds.Enclosure.{Enclosure}
 use Rattle.certificate.specs.declared.check.Verdict.TheVariants.{Yes, No}
@@ -19,6 +19,7 @@ use Rattle.certificate.specs.Bounds.{AreBounds, HasNoBounds}
 use Rattle.structure.specs.Structure.{IsStructureOf}
 use Rattle.load_vectors.specs.Loads.{AreLoads}
 use Rattle.case_run.specs.Causes.{Plan, at_row, resting_laws, IsFactorAt, IsElementCause, IsMatrixCause, IsLoadCause, IsBreakdownCause, IsSolveCause}
+use Rattle.member_set.specs.Members.{system}
 
 -- ---- the shifts
 
@@ -83,18 +84,18 @@ pub record HasCandidate (m : Lists) (case : ℕ) (p : Plan) (b : Built) (middles
   pub factor : ColumnLists
   pub loaded : AreLoads m case loads
   pub factorised : IsFactorAt p middles (pos 0) factor
-  pub candidate : IsCandidate (problem b (resting_laws b) loads factor) u
+  pub candidate : IsCandidate (problem (system b (resting_laws b) loads) factor.order (factor_entry factor)) u
 
 -- the bounds around the candidate
 pub record IsEnclosureOf (m : Lists) (case : ℕ) (p : Plan) (b : Built) (middles : Matrix) (lambda : ℤ) (e : Enclosure) : Type 0 where
   pub loads : List Ends
   pub u : List ℤ
   pub candidate : HasCandidate m case p b middles loads u
-  pub bounds : AreBounds b (resting_laws b) loads u lambda e
+  pub bounds : AreBounds (system b (resting_laws b) loads) u lambda e
 
 -- a number of the bounds leaves its limit
 pub data IsResidualCause (b : Built) (loads : List Ends) (u : List ℤ) (lambda : ℤ) : Cause → Type 0 where
-  residual : HasNoBounds b (resting_laws b) loads u lambda → IsResidualCause b loads u lambda causes.WidthResidual
+  residual : HasNoBounds (system b (resting_laws b) loads) u lambda → IsResidualCause b loads u lambda causes.WidthResidual
 
 -- the first cause of the case's own for which it has no bounds
 pub data IsOwnCause (m : Lists) (case : ℕ) (p : Plan) (b : Built) (middles : Matrix) (lambda : ℤ) (cause : Cause) : Type 0 where
@@ -102,7 +103,7 @@ pub data IsOwnCause (m : Lists) (case : ℕ) (p : Plan) (b : Built) (middles : M
   no_unshifted_factor : (loads : List Ends) → AreLoads m case loads → IsBreakdownCause p middles (pos 0) cause
       → IsOwnCause m case p b middles lambda cause
   no_candidate : (loads : List Ends) (factor : ColumnLists) → AreLoads m case loads → IsFactorAt p middles (pos 0) factor
-      → IsSolveCause (problem b (resting_laws b) loads factor) cause → IsOwnCause m case p b middles lambda cause
+      → IsSolveCause (problem (system b (resting_laws b) loads) factor.order (factor_entry factor)) cause → IsOwnCause m case p b middles lambda cause
   no_bounds : (loads : List Ends) (u : List ℤ) → HasCandidate m case p b middles loads u → IsResidualCause b loads u lambda cause
       → IsOwnCause m case p b middles lambda cause
 

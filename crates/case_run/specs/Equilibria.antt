@@ -3,7 +3,7 @@ use Rattle.std.specs.Prelude.{ℕ, ◌+◌, ◌<◌, ⊤, List, slice_index_or, 
 use Rattle.flex_interval.specs.Ends.{Ends}
 use Rattle.flex_interval.specs.Fraction.{Within}
 use Rattle.member_set.specs.declared.members.Built.{Built}
-use Rattle.member_set.specs.Members.{nothing}
+use Rattle.member_set.specs.Members.{nothing, system}
 use Rattle.member_set.specs.Realisation.{Realisation, IsRealisation, IsEquilibrium, force_in, fraction, force_fraction}
 use Rattle.int_laws.specs.Matrices.{Vector}
 use Rattle.model_types.specs.Lists.{Lists}
@@ -31,7 +31,7 @@ pub record AreWithin (r : Realisation) (exact : Vector) (first : ℕ) (u loads :
 abbrev pub OfEquilibria : Lists → ℕ → (Realisation → Vector → Type 0) → Type 0
 OfEquilibria m case IsSo =
     (b : Built) (loads : List Ends) (r : Realisation) (exact : Vector) → IsStructureOf m b → AreLoads m case loads →
-    IsRealisation b (resting_laws b) loads r → IsEquilibrium r exact → IsSo r exact
+    IsRealisation (system b (resting_laws b) loads) r → IsEquilibrium r exact → IsSo r exact
 
 -- certified bounds hold in every equilibrium
 abbrev pub HoldsAlways : Lists → ℕ → CaseAnswer → Type 0

@@ -7,7 +7,7 @@ use Rattle.factor_data.specs.Columns.{ColumnLists}
 use Rattle.lists.specs.Order.{IsOrder}
 use Rattle.elimination.specs.Elimination.{AreParents}
 use Rattle.int_laws.specs.Matrices.{absolute}
-use Rattle.certificate.specs.Definiteness.{SymmetricFractions, IsDefiniteWith}
+use Rattle.bound_laws.specs.Definiteness.{SymmetricFractions, IsDefiniteWith}
 use Rattle.member_set.specs.declared.members.Built.{Built}
 use Rattle.member_set.specs.Members.{node_count as nodes_of}
 use Rattle.case_run.specs.declared.fault.CaseFault.{CaseFault}
@@ -36,7 +36,7 @@ pub record IsPlan (order : List ℕ) (parents : List (Option ℕ)) : Type 0 wher
   pub parents_later : AreParents parents (length order)
 
 -- radii of so many nodes, from 0 to below 2^60
-pub record AreRadii (nodes : ℕ) (m : Matrix) : Type 0 where
+pub record IsRadiusMatrix (nodes : ℕ) (m : Matrix) : Type 0 where
   pub nodes_are : node_count m ≡ nodes
   pub not_negative : (i j : ℕ) → pos 0 ≤ℤ entry m i j
   pub below : (i j : ℕ) → entry m i j <ℤ pos (2 ^ 60)

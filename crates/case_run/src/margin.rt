@@ -1,7 +1,7 @@
 ghost use Rattle.std.specs.Prelude.{◌≡◌, ◌<◌, ◌≤◌, ℕ, length, IfOk, IfErr, ℤ, pos, ◌≤ℤ◌, ◌^◌};
 ghost use Rattle.case_run.specs.Causes.{plan};
 ghost use Rattle.case_run.specs.Certified.{shift_of, last_place, ShiftPasses, ShiftFails, IsMargin, HasNoMargin};
-ghost use Rattle.case_run.specs.Steps.{Names, IsFactorable, IsPlan, AreRadii, AreDefinite};
+ghost use Rattle.case_run.specs.Steps.{Names, IsFactorable, IsPlan, AreDefinite, IsRadiusMatrix};
 
 use crate::fault::CaseFault;
 use crate::steps::factor_of;
@@ -34,7 +34,7 @@ fn margin_at(
 ) -> Result<i128, CaseFault>
     requires plan { IsPlan order.now parents.now }
     requires factorable { IsFactorable (length order.now) middles.now }
-    requires radii { AreRadii (length order.now) radii.now }
+    requires radii { IsRadiusMatrix (length order.now) radii.now }
     requires shift_low { pos 0 ≤ℤ shift }
     requires shift_high { shift ≤ℤ pos (2 ^ 44) }
     ensures passes { IfOk result (ShiftPasses (plan order.now parents.now) middles.now radii.now shift) }
@@ -63,7 +63,7 @@ pub(crate) fn margin_of(
 ) -> Result<i128, CaseFault>
     requires plan { IsPlan order.now parents.now }
     requires factorable { IsFactorable (length order.now) middles.now }
-    requires radii { AreRadii (length order.now) radii.now }
+    requires radii { IsRadiusMatrix (length order.now) radii.now }
     ensures margin { IfOk result (IsMargin (plan order.now parents.now) middles.now radii.now) }
     ensures positive { IfOk result (λ lambda. pos 1 ≤ℤ lambda) }
     ensures definite { IfOk result (AreDefinite middles.now radii.now) }

@@ -1,20 +1,21 @@
 ghost use Rattle.std.specs.Prelude.{◌≡◌, ◌<◌, ◌≤◌, ℕ, length, [], IfOk, IfErr, ℤ, pos, ◌≤ℤ◌, ◌^◌, List};
 ghost use Rattle.flex_interval.specs.Ends.{Ends};
-ghost use Rattle.member_set.specs.Members.{IsBuilt, FitsBuilt, IsModerate, node_count, row_count};
-ghost use Rattle.member_set.specs.Realisation.{Realisation, IsRealisation, IsEquilibrium};
+ghost use Rattle.member_set.specs.Members.{IsBuilt, IsSystem, IsModerate, node_count, row_count, system, AreStiff};
+ghost use Rattle.member_set.specs.Realisation.{Realisation, IsRealisation, IsEquilibrium, every_member, exact_entry, entry_unit};
 ghost use Rattle.int_laws.specs.Matrices.{Vector};
-ghost use Rattle.assembly.specs.Stiffness.{AreAssembled, exact_entry, entry_unit, IsNear};
+ghost use Rattle.assembly.specs.Stiffness.{AreAssembled, IsWithinRadius};
 ghost use Rattle.sym_blocks.specs.Matrix.{entry};
 ghost use Rattle.certificate.specs.Bounds.{AreBounds, IsDefiniteRealisation, EnclosesEquilibrium};
 ghost use Rattle.case_run.specs.Certified.{IsResidualCause};
 ghost use Rattle.elimination.specs.Elimination.{AreParents};
+ghost use Rattle.factor_data.specs.Columns.{entry as factor_entry};
 ghost use Rattle.lists.specs.Order.{IsOrder};
 ghost use Rattle.load_vectors.specs.Loads.{AreLoads, HasForcesAlone, case_at};
 ghost use Rattle.solve.specs.Refinement.{problem, IsCandidate};
 ghost use Rattle.structure.specs.Anchors.{HasAnchorsAlone};
-ghost use Rattle.structure.specs.Structure.{IsStructureOf, IsStiff};
+ghost use Rattle.structure.specs.Structure.{IsStructureOf};
 ghost use Rattle.case_run.specs.Causes.{plan, resting_laws, IsFactorAt, IsElementCause, IsMatrixCause, IsLoadCause, IsBreakdownCause, IsSolveCause};
-ghost use Rattle.case_run.specs.Steps.{Names, IsFactorable, AreRadii, HasDiagonal};
+ghost use Rattle.case_run.specs.Steps.{Names, IsFactorable, HasDiagonal, IsRadiusMatrix};
 
 use crate::fault::CaseFault;
 use assembly::{AssembleFault, assemble};
@@ -34,7 +35,7 @@ use sym_blocks::SymBlocks;
 pub(crate) fn structure_of(alloc: Global, m: &Model) -> Result<Built, CaseFault>
     requires anchors { HasAnchorsAlone m.now }
     ensures structure { IfOk result (IsStructureOf m.now) }
-    ensures stiff { IfOk result IsStiff }
+    ensures stiff { IfOk result AreStiff }
     ensures cause { IfErr result (Names (IsElementCause m.now)) }
 {
     match build(alloc, m) {
@@ -50,10 +51,10 @@ pub(crate) fn matrices_of(alloc: Global, b: &Built) -> Result<(SymBlocks, SymBlo
     requires linear { b.now.unilateral ≡ [] }
     ensures assembled { IfOk result (λ m. AreAssembled b.now m.0 m.1) }
     ensures factorable { IfOk result (λ m. IsFactorable (node_count b.now) m.0) }
-    ensures radii { IfOk result (λ m. AreRadii (node_count b.now) m.1) }
-    ensures within { IfOk result (λ m. (loads : List Ends) (r : Realisation) → IsRealisation b.now (resting_laws b.now) loads r →
+    ensures radii { IfOk result (λ m. IsRadiusMatrix (node_count b.now) m.1) }
+    ensures within { IfOk result (λ m. (loads : List Ends) (r : Realisation) → IsRealisation (system b.now (resting_laws b.now) loads) r →
         (i j : ℕ) → i < row_count b.now → j < row_count b.now →
-        IsNear (entry_unit r.denominator) (exact_entry r i j) (entry m.0 i j) (entry m.1 i j)) }
+        IsWithinRadius (entry_unit r.denominator) (exact_entry every_member r i j) (entry m.0 i j) (entry m.1 i j)) }
     ensures cause { IfErr result (Names (IsMatrixCause b.now)) }
 {
     match assemble(alloc, b, &[]) {
@@ -135,13 +136,12 @@ pub(crate) fn displacements_of(
     loads: &[Iv],
     factor: &Factor,
 ) -> Result<Vec<i128>, CaseFault>
-    requires built { IsBuilt b.now }
-    requires lists { FitsBuilt b.now laws.now loads.now }
+    requires system { IsSystem (system b.now laws.now loads.now) }
     requires linear { b.now.unilateral ≡ [] }
     requires nodes { length factor.now.order ≡ node_count b.now }
     requires diagonal { HasDiagonal factor.now }
-    ensures candidate { IfOk result (λ u. IsCandidate (problem b.now laws.now loads.now factor.now) u.items) }
-    ensures cause { IfErr result (Names (IsSolveCause (problem b.now laws.now loads.now factor.now))) }
+    ensures candidate { IfOk result (λ u. IsCandidate (problem (system b.now laws.now loads.now) factor.now.order (factor_entry factor.now)) u.items) }
+    ensures cause { IfErr result (Names (IsSolveCause (problem (system b.now laws.now loads.now) factor.now.order (factor_entry factor.now)))) }
 {
     match candidate(alloc, b, laws, &[], loads, factor) {
         Ok(u) => Ok(u),
@@ -159,16 +159,15 @@ pub(crate) fn bounds_around(
     u: &[i128],
     lambda: i128,
 ) -> Result<Enclosure, CaseFault>
-    requires built { IsBuilt b.now }
+    requires system { IsSystem (system b.now laws.now loads.now) }
     requires laws { laws.now ≡ resting_laws b.now }
-    requires lists { FitsBuilt b.now laws.now loads.now }
     requires linear { b.now.unilateral ≡ [] }
-    requires stiff { IsStiff b.now }
+    requires stiff { AreStiff b.now }
     requires one_displacement_each { length u.now ≡ row_count b.now }
     requires moderate { IsModerate u.now }
     requires positive { pos 1 ≤ℤ lambda }
-    ensures bounds { IfOk result (AreBounds b.now (resting_laws b.now) loads.now u.now lambda) }
-    ensures encloses { IfOk result (λ e. (r : Realisation) (exact : Vector) → IsRealisation b.now (resting_laws b.now) loads.now r →
+    ensures bounds { IfOk result (AreBounds (system b.now (resting_laws b.now) loads.now) u.now lambda) }
+    ensures encloses { IfOk result (λ e. (r : Realisation) (exact : Vector) → IsRealisation (system b.now (resting_laws b.now) loads.now) r →
         IsDefiniteRealisation r lambda → IsEquilibrium r exact → EnclosesEquilibrium e r exact) }
     ensures cause { IfErr result (Names (IsResidualCause b.now loads.now u.now lambda)) }
 {

@@ -7,24 +7,21 @@ use Rattle.int_laws.specs.Sums.{sum_below}
 use Rattle.int_laws.proofs.Sums.{int_sums}
 use Rattle.int_laws.proofs.Products.{le_of_mul, le_mul, one-mul, mul_comm, square_nonnegative}
 use Rattle.int_laws.proofs.SumLaws.{sum_below-le_more}
-use Rattle.flex_num.specs.Division.{IsCeiling}
-use Rattle.flex_num.proofs.DivisionLemmas.{ceiling_least}
+use Rattle.int_laws.specs.Division.{IsCeiling}
+use Rattle.int_laws.proofs.DivisionLemmas.{ceiling_least}
 use Rattle.flex_interval.specs.Ends.{Ends}
 use Rattle.flex_interval.specs.Fraction.{Within}
 use Rattle.flex_interval.specs.Operations.{and_then}
 use Rattle.member_set.specs.declared.members.Member.{Member}
 use Rattle.member_set.specs.declared.members.Law.{Law}
 use Rattle.member_set.specs.declared.members.Built.{Built}
-use Rattle.member_set.specs.Members.{nothing, member_of, law_of, force_of, row_count}
+use Rattle.member_set.specs.Members.{nothing, member_of, law_of, force_of, row_count, system, AreStiff}
 use Rattle.member_set.specs.Realisation.{Realisation, IsRealisation, IsEquilibrium, fraction, force_fraction, force_in}
 use Rattle.member_set.specs.Interval.{Outcome, limited_force, law_force_of, member_force_of, reach_of, AreForces}
 use Rattle.int_laws.specs.Matrices.{Vector}
-use Rattle.certificate.specs.Enclosure.{NoNegativeStiffness, IsResidualLength, AreForcesWithin, greater_size, widened, alone, displacement_radius_of, force_radius_of}
-use Rattle.certificate.specs.Bounds.{AreStiff, IsDefiniteRealisation, found, EnclosesEquilibrium}
+use Rattle.bound_laws.specs.Nearness.{StiffnessMatrixExists, EquilibriaAreNear, NearIsEnclosed, RoundedRadiiAreEnough, NoNegativeStiffness, IsResidualLength, AreForcesWithin, greater_size, widened, alone, displacement_radius_of, force_radius_of}
+use Rattle.certificate.specs.Bounds.{IsDefiniteRealisation, found, EnclosesEquilibrium}
 use Rattle.certificate.specs.Widening.{only, IsLimited, AreLimited, AreAroundDisplacements, AreWidened}
-use Rattle.certificate.proofs.EnclosureLaw.{matrix_exists, equilibria_near}
-use Rattle.certificate.proofs.RadiusLaw.{near_enclosed}
-use Rattle.certificate.proofs.RoundingLaw.{rounded_radii_are_enough}
 
 -- ---- forces are limited
 
@@ -40,7 +37,7 @@ limited_last : (o : Outcome) (next : Ends → Outcome) (e : Ends) → and_then o
 limited_last (Ok x) next e is = limited_after (next x) e is
 limited_last (Err fault) next e is = absurd (cc)
 
-member_limited : (m : Member) (law : Law) (u : List ℤ) (e : Ends) → member_force_of m law u ≡ Ok e → IsLimited e
+pub member_limited : (m : Member) (law : Law) (u : List ℤ) (e : Ends) → member_force_of m law u ≡ Ok e → IsLimited e
 unfolding member_force_of
 member_limited m law u e is = limited_last (reach_of m u) (law_force_of m law) e is
 
@@ -96,21 +93,22 @@ ceiling_bounded n d q limit one up below is =
 ordered : (e : Ends) (n q : ℤ) → Within e (fraction n q) → e.lo ≤ℤ e.hi
 ordered e n q within = le_of_mul q e.lo e.hi within.defined (omega (arith, int_sums, within.at_least, within.at_most))
 
-pub bounds_enclose : (b : Built) (laws : List Law) (loads : List Ends) (u : List ℤ) (lambda size radius : ℤ) (old displacements forces : List Ends) (r : Realisation) (exact : Vector) →
+pub bounds_enclose : StiffnessMatrixExists → EquilibriaAreNear → NearIsEnclosed → RoundedRadiiAreEnough →
+    (b : Built) (laws : List Law) (loads : List Ends) (u : List ℤ) (lambda size radius : ℤ) (old displacements forces : List Ends) (r : Realisation) (exact : Vector) →
     AreStiff b → pos 1 ≤ℤ lambda → pos 0 ≤ℤ size → length u ≡ row_count b → radius ≡ displacement_radius_of lambda size →
     AreAroundDisplacements u radius displacements → AreWidened b lambda size old forces →
-    IsRealisation b laws loads r → IsResidualLength r u size → AreForcesWithin r u old → IsDefiniteRealisation r lambda → IsEquilibrium r exact →
+    IsRealisation (system b laws loads) r → IsResidualLength r u size → AreForcesWithin r u old → IsDefiniteRealisation r lambda → IsEquilibrium r exact →
     EnclosesEquilibrium (only displacements forces) r exact
-bounds_enclose b laws loads u lambda size radius old displacements forces r exact stiff one size_up one_each radius_is around wider real long within definite balanced =
+bounds_enclose matrix_exists equilibria_near near_enclosed rounded_radii_are_enough b laws loads u lambda size radius old displacements forces r exact stiff one size_up one_each radius_is around wider real long within definite balanced =
     let inside_b = λ (k : ℕ) (inside : k < r.members). subst (λ (n : ℕ). k < n) real.all_members inside in
     let up : NoNegativeStiffness b = λ k inside. omega (arith, int_sums, (stiff k inside).at_least) in
-    let matrix = matrix_exists b laws loads r real in
-    let near = equilibria_near b laws loads r matrix.0 lambda u exact up real matrix.1 (definite matrix.0 matrix.1) one balanced in
+    let matrix = matrix_exists (system b laws loads) r real in
+    let near = equilibria_near (system b laws loads) r matrix.0 lambda u exact up real matrix.1 (definite matrix.0 matrix.1) one balanced in
     let radii = rounded_radii_are_enough b lambda size one size_up
     (λ k inside.
     let order = ordered (member_of b k).kappa (r.member k).stiffness r.denominator (real.member_within k (subst (λ (n : ℕ). k < n) (sym real.all_members) inside)).stiffness_within in
     omega (arith, int_sums, order, (stiff k inside).at_least)) in
-    let enclosed = near_enclosed b laws loads r lambda u exact old size (displacement_radius_of lambda size) (λ k. force_radius_of lambda size (member_of b k).kappa.hi)
+    let enclosed = near_enclosed (system b laws loads) r lambda u exact old size (displacement_radius_of lambda size) (λ k. force_radius_of lambda size (member_of b k).kappa.hi)
     up real one near size_up long radii within in
     record {
       displacement = λ row inside.

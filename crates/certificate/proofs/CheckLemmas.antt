@@ -6,8 +6,8 @@ use Rattle.std.specs.Prelude.{MatchOption, Option, Some, None}
 use Rattle.std.specs.Int.{int_div_euclid}
 use borrow.Author.Count.{below_more}
 use Rattle.std.proofs.lemmas.Bool.{cases_eq, cases_lt}
-use Rattle.certificate.specs.declared.check.Verdict.TheVariants.{Yes}
-use Rattle.certificate.proofs.DefinitenessLaw.{passed_test}
+use Rattle.certificate.specs.declared.check.Verdict.{Verdict}
+use Rattle.certificate.specs.declared.check.Verdict.TheVariants.{Yes, No}
 use Rattle.int_laws.specs.Sums.{sum_below}
 use Rattle.int_laws.proofs.Sums.{int_sums}
 use Rattle.int_laws.proofs.SumLaws.{sum_below-same, sum_below-nonnegative}
@@ -22,7 +22,7 @@ use Rattle.factor_data.proofs.ColumnLemmas.{part-listed, part-missing}
 use Rattle.certificate.specs.declared.row_lists.RowEntry.{RowEntry}
 use Rattle.flex_num.specs.declared.guarded.GuardedSum.{GuardedSum}
 use Rattle.int_laws.specs.Matrices.{absolute, scalar_matrix}
-use Rattle.certificate.specs.Definiteness.{CholeskyTest, residual, row_margin, RowFails, IsDefinitenessMargin}
+use Rattle.bound_laws.specs.Definiteness.{CholeskyTest, residual, row_margin, RowFails, IsDefinitenessMargin, PassedTestIsProof}
 use Rattle.lists.specs.Order.{places_of}
 use Rattle.certificate.specs.RowSums.{column_size}
 use Rattle.flex_num.specs.Guarded.{zero_sum}
@@ -206,12 +206,14 @@ pass-more t n lambda m scale before passes margin small =
       ];
     }
 
-pub pass-all : (t : CholeskyTest) (lambda : ℕ) → t.scale ≡ pos (2 ^ 52) → 0 < t.size → PassBelow t t.size lambda → (lambda < 2 ^ 127) × IsVerdict t (Yes (pos lambda)) × Proves t (Yes (pos lambda))
-pass-all t lambda scale some passes =
+pub pass-all : (t : CholeskyTest) (lambda : ℕ) → 0 < t.size → PassBelow t t.size lambda → (lambda < 2 ^ 127) × IsVerdict t (Yes (pos lambda))
+pass-all t lambda some passes =
     elim passes.reached [
       | inl none ↦ absurd (omega (arith, none.0))
-      | inr kept ↦
-          let margin : IsDefinitenessMargin t (pos lambda) = record { least = passes.least; reached = kept.1 } in
-          let unit : pos 0 <ℤ t.scale = omega (arith, int_sums, scale) in
-          (kept.0, (passes.passed, margin), passed_test t (pos lambda) unit (λ i h fails. passes.passed i h (inr fails)) margin)
+      | inr kept ↦ (kept.0, (passes.passed, record { least = passes.least; reached = kept.1 }))
     ]
+
+-- a verdict is a proof, by the law of the test
+pub verdict-proves : PassedTestIsProof → (t : CholeskyTest) (verdict : Verdict) → pos 0 <ℤ t.scale → IsVerdict t verdict → Proves t verdict
+verdict-proves passed_test t (Yes lambda) unit (passed, margin) = passed_test t lambda unit (λ i h fails. passed i h (inr fails)) margin
+verdict-proves passed_test t (No row) unit is = tt

@@ -9,7 +9,7 @@ use Rattle.int_laws.proofs.Products.{mul-add, mul_comm, le_mul}
 use Rattle.int_laws.proofs.SumLaws.{sum_below-le_more}
 use Rattle.flex_num.specs.declared.guarded.GuardedSum.{GuardedSum}
 use Rattle.int_laws.specs.Matrices.{absolute}
-use Rattle.certificate.specs.RowSums.{AddsProduct, IsBeyond, column_size}
+use Rattle.certificate.specs.RowSums.{AddsProduct, column_size, IsSumBeyond}
 use Rattle.flex_num.specs.Guarded.{value_at, size_at}
 use Rattle.factor_data.specs.Columns.{column_part}
 
@@ -73,7 +73,7 @@ pub column-beyond : (old mid : List GuardedSum) (rows : List ℕ) (values : List
     slice_index rows u ≡ at →
     pos (size_at mid at) ≡ pos (size_at old at) +ℤ (absolute factor *ℤ column_part absolute u rows values at) →
     pos (2 ^ 126) ≤ℤ (pos (size_at mid at) +ℤ absolute (factor *ℤ slice_index_or values u (pos 0))) →
-    IsBeyond old rows values factor
+    IsSumBeyond old rows values factor
 column-beyond old mid rows values factor u at inside more e before reached =
     let grown = ap (λ (z : ℤ). absolute factor *ℤ z) (part-here absolute u rows values at e) in
     let sum = mul-add (absolute factor) (column_part absolute u rows values at) (absolute (slice_index_or values u (pos 0))) in

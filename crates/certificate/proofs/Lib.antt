@@ -1,7 +1,3 @@
-pub mod DefinitenessLaw
-pub mod EnclosureLaw
-pub mod RadiusLaw
-pub mod RoundingLaw
 pub mod BoundsLemmas
 pub mod RowSumLemmas
 pub mod ColumnLemmas
@@ -11,3 +7,4 @@ pub mod PatternLemmas
 pub mod ResidualLemmas
 pub mod RowLemmas
 pub mod CheckLemmas
+pub mod LimitLemmas

@@ -8,7 +8,7 @@ use Rattle.factor_data.specs.Columns.{ColumnLists}
 use Rattle.certificate.specs.declared.row_lists.RowEntry.{RowEntry}
 use Rattle.flex_num.specs.declared.guarded.GuardedSum.{GuardedSum}
 use Rattle.int_laws.specs.Matrices.{absolute}
-use Rattle.certificate.specs.RowSums.{column_size, AddsColumn, IsBeyond}
+use Rattle.certificate.specs.RowSums.{column_size, AddsColumn, IsSumBeyond}
 use Rattle.flex_num.specs.Guarded.{value_at, size_at}
 use Rattle.certificate.specs.RowLists.{no_entry, row_part, SumsRow, IsRowBeyond}
 use Rattle.certificate.proofs.ColumnLemmas.{term_up}
@@ -39,13 +39,13 @@ size-up rows values j =
 
 -- the sizes reach the limit with this entry
 pub row-beyond : (f : ColumnLists) (row : List RowEntry) (t : ℕ) (mid : List GuardedSum) (rows : List ℕ) (values : List ℤ) (factor : ℤ) →
-    IsBeyond mid rows values factor → rows ≡ column_rows f (get_or row t no_entry).column → values ≡ column_values f (get_or row t no_entry).column →
+    IsSumBeyond mid rows values factor → rows ≡ column_rows f (get_or row t no_entry).column → values ≡ column_values f (get_or row t no_entry).column →
     factor ≡ (get_or row t no_entry).value → t < length row → length mid ≡ 6 * length f.order →
     ((j : ℕ) → j < length mid → pos (size_at mid j) ≡ row_part absolute t row (λ k. column_size (column_rows f k) (column_values f k) j)) → IsRowBeyond f row
 row-beyond f row t mid rows values factor beyond is_rows is_values is_factor more positions before =
-    let P : List ℕ → Type 0 = λ rs. IsBeyond mid rs values factor in
-    let Q : List ℤ → Type 0 = λ vs. IsBeyond mid (column_rows f (get_or row t no_entry).column) vs factor in
-    let R : ℤ → Type 0 = λ z. IsBeyond mid (column_rows f (get_or row t no_entry).column) (column_values f (get_or row t no_entry).column) z in
+    let P : List ℕ → Type 0 = λ rs. IsSumBeyond mid rs values factor in
+    let Q : List ℤ → Type 0 = λ vs. IsSumBeyond mid (column_rows f (get_or row t no_entry).column) vs factor in
+    let R : ℤ → Type 0 = λ z. IsSumBeyond mid (column_rows f (get_or row t no_entry).column) (column_values f (get_or row t no_entry).column) z in
     let over = subst R is_factor (subst Q is_values (subst P is_rows beyond)) in
     let sizes = λ (k : ℕ). column_size (column_rows f k) (column_values f k) over.at in
     let whole = sum_below-le_more (suc t) (length row) (λ s. absolute (get_or row s no_entry).value *ℤ sizes (get_or row s no_entry).column) (omega arith)

@@ -8,7 +8,7 @@ use Rattle.factor_data.specs.Columns.{ColumnLists}
 use Rattle.certificate.specs.declared.check.Verdict.{Verdict}
 use Rattle.certificate.specs.declared.check.Verdict.TheVariants.{Yes, No}
 use Rattle.int_laws.specs.Matrices.{Entries, absolute}
-use Rattle.certificate.specs.Definiteness.{CholeskyTest, RowFails, IsDefinitenessMargin, EachIsDefiniteWith}
+use Rattle.bound_laws.specs.Definiteness.{CholeskyTest, RowFails, IsDefinitenessMargin, EachIsDefiniteWith}
 
 -- the test of a middle matrix and radii by a factor: its rows are those of the matrices, and its products have the scale 2^52
 abbrev pub test_of : Blocks → Blocks → ColumnLists → ℤ → CholeskyTest

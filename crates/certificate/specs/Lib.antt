@@ -1,5 +1,3 @@
-pub mod Definiteness
-pub mod Enclosure
 pub mod Bounds
 pub mod Widening
 pub mod RowSums

@@ -43,7 +43,7 @@ pub record AddsColumn (old new : List GuardedSum) (rows : List ℕ) (values : Li
   pub size : (j : ℕ) → j < length old → pos (size_at new j) ≡ pos (size_at old j) +ℤ (absolute factor *ℤ column_size rows values j)
 
 -- the sizes at some position would reach the limit
-pub record IsBeyond (old : List GuardedSum) (rows : List ℕ) (values : List ℤ) (factor : ℤ) : Type 0 where
+pub record IsSumBeyond (old : List GuardedSum) (rows : List ℕ) (values : List ℤ) (factor : ℤ) : Type 0 where
   pub at : ℕ
   pub inside : at < length old
   pub reached : pos (2 ^ 126) ≤ℤ (pos (size_at old at) +ℤ (absolute factor *ℤ column_size rows values at))

@@ -4,7 +4,7 @@ use Rattle.flex_interval.specs.Ends.{Ends}
 use Rattle.member_set.specs.declared.members.Built.{Built}
 use Rattle.member_set.specs.Members.{nothing, member_of, force_of}
 use Rattle.certificate.specs.declared.bounds.Enclosure.{Enclosure}
-use Rattle.certificate.specs.Enclosure.{widened, alone, force_radius_of}
+use Rattle.bound_laws.specs.Nearness.{widened, alone, force_radius_of}
 
 -- the answer with these intervals, without states
 abbrev pub only : List Ends → List Ends → Enclosure

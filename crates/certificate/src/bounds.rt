@@ -1,15 +1,16 @@
 ghost use Rattle.std.specs.Prelude.{◌≡◌, ℕ, ◌^◌, ◌<◌, ◌≤◌, [], List, length, slice_index_or, unsigned_abs, ℤ, pos, ◌≤ℤ◌, ◌<ℤ◌, IfOk, OnOk, OnErr, Err};
 ghost use Rattle.flex_interval.specs.Ends.{Ends};
-ghost use Rattle.member_set.specs.Members.{IsBuilt, FitsBuilt, IsModerate, row_count, member_of, force_of, nothing};
+ghost use Rattle.member_set.specs.Members.{IsSystem, IsModerate, row_count, member_of, force_of, nothing, system, AreStiff};
 ghost use Rattle.member_set.specs.Realisation.{Realisation, IsRealisation, IsEquilibrium};
 ghost use Rattle.member_set.specs.Interval.{AreForces, residual_of};
 ghost use Rattle.int_laws.specs.Matrices.{Vector};
-ghost use Rattle.certificate.specs.Enclosure.{IsResidualLength, AreForcesWithin, widened, alone, force_radius_of};
-ghost use Rattle.certificate.specs.Bounds.{AreStiff, IsDefiniteRealisation, HasResiduals, length_of, sum_of_squares, AreBounds, HasNoBounds, EnclosesEquilibrium};
+ghost use Rattle.bound_laws.specs.Nearness.{IsResidualLength, AreForcesWithin, widened, alone, force_radius_of};
+ghost use Rattle.certificate.specs.Bounds.{IsDefiniteRealisation, HasResiduals, sum_of_squares, AreBounds, HasNoBounds, EnclosesEquilibrium, residual_length};
 ghost use Rattle.certificate.specs.Widening.{AreLimited, AreWidened, AreAroundDisplacements, IsTooUnsteady, only};
 
 use crate::fault::EncloseFault;
 use crate::radii::{displacement_radius, force_radius, plus_square, root_of_squares, widened};
+use bound_laws::equilibria_are_near;
 use flex_interval::{Iv, Wide, point};
 use lists::Sequence;
 use member_set::{Built, Law, member_forces, residual_from};
@@ -38,17 +39,16 @@ pub fn enclose(
     u: &[i128],
     lambda: i128,
 ) -> Result<Enclosure, EncloseFault>
-    requires built { IsBuilt b.now }
-    requires lists { FitsBuilt b.now laws.now loads.now }
+    requires system { IsSystem (system b.now laws.now loads.now) }
     requires linear { b.now.unilateral ≡ [] }
     requires one_displacement_each { length u.now ≡ row_count b.now }
     requires moderate { IsModerate u.now }
     requires stiff { AreStiff b.now }
     requires positive { pos 1 ≤ℤ lambda }
-    ensures bounds { IfOk result (λ e. AreBounds b.now laws.now loads.now u.now lambda e) }
-    ensures encloses { IfOk result (λ e. (r : Realisation) (exact : Vector) → IsRealisation b.now laws.now loads.now r →
+    ensures bounds { IfOk result (λ e. AreBounds (system b.now laws.now loads.now) u.now lambda e) }
+    ensures encloses { IfOk result (λ e. (r : Realisation) (exact : Vector) → IsRealisation (system b.now laws.now loads.now) r →
         IsDefiniteRealisation r lambda → IsEquilibrium r exact → EnclosesEquilibrium e r exact) }
-    ensures wide { result ≡ Err EncloseFault.Wide → HasNoBounds b.now laws.now loads.now u.now lambda }
+    ensures wide { result ≡ Err EncloseFault.Wide → HasNoBounds (system b.now laws.now loads.now) u.now lambda }
 {
     let mut displacements = vec![in alloc; point(0); u.len()]?;
     let mut forces = vec![in alloc; point(0); laws.len()]?;
@@ -70,19 +70,19 @@ fn put_bounds(
     displacements: &mut [Iv],
     forces: &mut [Iv],
 ) -> Result<(), Wide>
-    requires built { IsBuilt b.now }
-    requires lists { FitsBuilt b.now laws.now loads.now }
+    requires system { IsSystem (system b.now laws.now loads.now) }
     requires one_displacement_each { length u.now ≡ row_count b.now }
     requires moderate { IsModerate u.now }
     requires stiff { AreStiff b.now }
     requires positive { pos 1 ≤ℤ lambda }
     requires one_bound_each { length displacements.old ≡ row_count b.now }
     requires one_force_each { length forces.old ≡ length b.now.members }
-    ensures bounds { OnOk result (AreBounds b.now laws.now loads.now u.now lambda (only displacements.new forces.new)) }
-    ensures encloses { OnOk result ((r : Realisation) (exact : Vector) → IsRealisation b.now laws.now loads.now r →
+    ensures bounds { OnOk result (AreBounds (system b.now laws.now loads.now) u.now lambda (only displacements.new forces.new)) }
+    ensures encloses { OnOk result ((r : Realisation) (exact : Vector) → IsRealisation (system b.now laws.now loads.now) r →
         IsDefiniteRealisation r lambda → IsEquilibrium r exact → EnclosesEquilibrium (only displacements.new forces.new) r exact) }
-    ensures wide { OnErr result (HasNoBounds b.now laws.now loads.now u.now lambda) }
+    ensures wide { OnErr result (HasNoBounds (system b.now laws.now loads.now) u.now lambda) }
 {
+    equilibria_are_near();
     let size = residual_length(b, laws, loads, u, forces)?;
     widen_displacements(u, displacement_radius(lambda, size)?, displacements);
     widen_forces(b, lambda, size, forces)
@@ -96,21 +96,21 @@ fn residual_length(
     u: &[i128],
     forces: &mut [Iv],
 ) -> Result<i128, Wide>
-    requires built { IsBuilt b.now }
-    requires lists { FitsBuilt b.now laws.now loads.now }
+    requires system { IsSystem (system b.now laws.now loads.now) }
     requires one_displacement_each { length u.now ≡ row_count b.now }
     requires moderate { IsModerate u.now }
     requires one_force_each { length forces.old ≡ length b.now.members }
     ensures forces { OnOk result (AreForces b.now laws.now u.now forces.new) }
-    ensures forces_within { OnOk result ((r : Realisation) → IsRealisation b.now laws.now loads.now r → AreForcesWithin r u.now forces.new) }
-    ensures residuals { OnOk result (HasResiduals b.now laws.now loads.now u.now) }
-    ensures short { OnOk result (sum_of_squares b.now laws.now loads.now u.now <ℤ pos (2 ^ 126)) }
-    ensures value { IfOk result (λ size. size ≡ length_of b.now laws.now loads.now u.now) }
+    ensures forces_within { OnOk result ((r : Realisation) → IsRealisation (system b.now laws.now loads.now) r → AreForcesWithin r u.now forces.new) }
+    ensures residuals { OnOk result (HasResiduals (system b.now laws.now loads.now) u.now) }
+    ensures short { OnOk result (sum_of_squares (system b.now laws.now loads.now) u.now <ℤ pos (2 ^ 126)) }
+    ensures value { IfOk result (λ size. size ≡ residual_length (system b.now laws.now loads.now) u.now) }
     ensures not_negative { IfOk result (λ size. pos 0 ≤ℤ size) }
     ensures bounded { IfOk result (λ size. size ≤ℤ pos (2 ^ 63)) }
-    ensures is_length { IfOk result (λ size. (r : Realisation) → IsRealisation b.now laws.now loads.now r → IsResidualLength r u.now size) }
-    ensures wide { OnErr result ((lambda : ℤ) → HasNoBounds b.now laws.now loads.now u.now lambda) }
+    ensures is_length { IfOk result (λ size. (r : Realisation) → IsRealisation (system b.now laws.now loads.now) r → IsResidualLength r u.now size) }
+    ensures wide { OnErr result ((lambda : ℤ) → HasNoBounds (system b.now laws.now loads.now) u.now lambda) }
 {
+    equilibria_are_near();
     member_forces(b, laws, u, forces)?;
     let mut sum = 0;
     for row in 0..loads.len() {

@@ -5,7 +5,7 @@ ghost use Rattle.sym_blocks.specs.Matrix.{node_count, entry};
 ghost use Rattle.lists.specs.Order.{IsOrder};
 ghost use Rattle.factor_data.specs.Columns.{IsFactor};
 ghost use Rattle.certificate.specs.RowResidual.{HasResidual, IsRowLost};
-ghost use Rattle.certificate.specs.Definiteness.{row_margin};
+ghost use Rattle.bound_laws.specs.Definiteness.{row_margin};
 ghost use Rattle.certificate.specs.Space.{AreListsOf};
 ghost use Rattle.certificate.specs.Checker.{test_of, RowIsRefused, IsVerdict, Proves};
 
@@ -14,6 +14,7 @@ use crate::margin::margin;
 use crate::row_lists::RowEntry;
 use crate::row_sums::RowSums;
 use crate::space::CheckSpace;
+use bound_laws::passed_test_is_proof;
 use factor_data::Factor;
 use sym_blocks::SymBlocks;
 
@@ -133,6 +134,7 @@ fn check_rows(
     ensures proof { Proves (test_of middle.now radii.now g.now (pos shift)) result }
     ensures kept { space.new ≡ space.old }
 {
+    passed_test_is_proof();
     let mut lambda = u128::MAX;
     for row in 0..rows {
         match row_margin(middle, radii, g, shift, row as u32, space) {

@@ -55,7 +55,7 @@ impl Model for RowSums {
 
 impl RowSums {
     ghost use Rattle.flex_num.specs.Guarded.{value_at, size_at};
-    ghost use Rattle.certificate.specs.RowSums.{sizes_total, IsClear, AddsProduct, AddsColumn, IsBeyond};
+    ghost use Rattle.certificate.specs.RowSums.{sizes_total, IsClear, AddsProduct, AddsColumn, IsSumBeyond};
 
     /// So many sums, all 0.
     pub fn new(alloc: Global, positions: usize) -> Result<Self, AllocError>
@@ -89,7 +89,7 @@ impl RowSums {
         requires aligned { length values.now ≡ length rows.now }
         requires in_range { All (λ r. r < length self.old) rows.now }
         ensures added { IsTrue result → AddsColumn self.old self.new rows.now values.now factor }
-        ensures limit { result ≡ false → (length self.new ≡ length self.old) × IsBeyond self.old rows.now values.now factor }
+        ensures limit { result ≡ false → (length self.new ≡ length self.old) × IsSumBeyond self.old rows.now values.now factor }
     {
         for place in 0..rows.len() {
             if !self.add(rows[place], product(factor, values[place])) {

@@ -3,9 +3,9 @@ use Rattle.std.proofs.Common.{◌≡◌, ℕ, zero, suc, ◌+◌, ◌*◌, ◌^�
 use Rattle.std.proofs.lemmas.Int.{ints, by_lt_z, unsigned_abs-mul}
 use Rattle.int_laws.proofs.Sums.{int_sums}
 use Rattle.int_laws.proofs.Products.{mul_comm, add-mul, mul-add, sub-mul, mul-sub, square_nonnegative}
-use Rattle.flex_num.specs.Division.{nearest_of}
+use Rattle.int_laws.specs.Division.{nearest_of}
 use Rattle.flex_num.specs.Root.{root_of}
-use Rattle.flex_num.proofs.DivisionLemmas.{nearest_of-is, nearest_unique}
+use Rattle.int_laws.proofs.DivisionLemmas.{nearest_of-is, nearest_unique}
 use Rattle.flex_num.proofs.RootLemmas.{root_of-is}
 use Rattle.int_laws.specs.Sums.{sum_below}
 use Rattle.cholesky_laws.specs.Recurrence.{cholesky, left_after, pivot, scaled}

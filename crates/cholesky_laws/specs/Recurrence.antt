@@ -1,7 +1,7 @@
 -- The Cholesky factorisation of a symmetric matrix in whole numbers: each root is rounded down and each quotient to the
 -- nearest. It is defined for every matrix `a`, column after column, with rows and columns in elimination positions.
 use Rattle.std.specs.Prelude.{◌≡◌, ℕ, zero, suc, ◌+◌, ◌*◌, ◌/◌, ◌%◌, ◌^◌, ◌<◌, nat_eq, nat_lt, int_lt, List, [], ◌∷◌, slice_index, if◌then◌else◌, ℤ, pos, ◌+ℤ◌, ◌-ℤ◌, ◌*ℤ◌, ◌≤ℤ◌, ◌<ℤ◌}
-use Rattle.flex_num.specs.Division.{nearest_of}
+use Rattle.int_laws.specs.Division.{nearest_of}
 use Rattle.flex_num.specs.Root.{root_of}
 use Rattle.int_laws.specs.Sums.{sum_below}
 use Rattle.lists.specs.Rows.{freedom_at}

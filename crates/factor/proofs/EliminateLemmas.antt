@@ -6,7 +6,7 @@ use Rattle.std.proofs.lemmas.List.{get_or_append_left, get_or_push, length_push}
 use Rattle.std.proofs.lemmas.List.Elements.{All-push}
 use Rattle.int_laws.proofs.Sums.{int_sums}
 use Rattle.int_laws.proofs.SumLaws.{sum_below-same}
-use Rattle.flex_num.specs.Division.{nearest_of}
+use Rattle.int_laws.specs.Division.{nearest_of}
 use Rattle.flex_num.specs.Root.{root_of}
 use Rattle.cholesky_laws.specs.Recurrence.{cholesky, left_after, pivot}
 use Rattle.cholesky_laws.proofs.RecurrenceLemmas.{cholesky-above, cholesky-diagonal, cholesky-below}

@@ -4,8 +4,8 @@ use Rattle.std.proofs.lemmas.Nat.{pow_pos}
 use Rattle.std.proofs.lemmas.Int.{ints, by_lt_z}
 use Rattle.int_laws.proofs.Sums.{int_sums}
 use Rattle.int_laws.proofs.Products.{mul_comm, mul_assoc, mul_right_comm, neg-mul, le_mul, le_mul_negative, le_of_mul, lt_of_mul, mul_positive, one-mul}
-use Rattle.flex_num.specs.Division.{IsFloor, IsCeiling, floor_of}
-use Rattle.flex_num.proofs.DivisionLemmas.{floor_of-is}
+use Rattle.int_laws.specs.Division.{IsFloor, IsCeiling, floor_of}
+use Rattle.int_laws.proofs.DivisionLemmas.{floor_of-is, below_divided, above_divided}
 use Rattle.flex_interval.specs.Ends.{Ends, IsInterval}
 use Rattle.flex_interval.specs.Fraction.{Fraction, Within, scaled}
 use Rattle.flex_interval.specs.Operations.{ends}
@@ -62,12 +62,10 @@ rounded_within p e num den m positive low high within =
     let defined : pos 0 <ℤ den = rw one at within.defined in
     let below : (p.lo *ℤ den) ≤ℤ num = rw one at within.at_least in
     let above : num ≤ℤ (p.hi *ℤ den) = rw one at within.at_most in
-    let low_scaled = le_mul den (omega (arith, int_sums)) low in
-    let high_scaled = le_mul den (omega (arith, int_sums)) high in
     record {
       defined = mul_positive den m defined positive;
-      at_least = omega (arith, int_sums, mul_assoc e.lo m den, ap (λ z. e.lo *ℤ z) (mul_comm m den));
-      at_most = omega (arith, int_sums, mul_assoc e.hi m den, ap (λ z. e.hi *ℤ z) (mul_comm m den));
+      at_least = below_divided e.lo m p.lo num den (omega (arith, int_sums)) low below;
+      at_most = above_divided e.hi m p.hi num den (omega (arith, int_sums)) high above;
     }
 
 pub ratio_within : (p e : Ends) (n m : ℤ) (x : Fraction) → pos 0 <ℤ m → (e.lo *ℤ m) ≤ℤ p.lo → p.hi ≤ℤ (e.hi *ℤ m) → Within p (scaled x n (pos 1)) → Within e (scaled x n m)

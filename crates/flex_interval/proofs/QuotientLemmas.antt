@@ -4,8 +4,8 @@ use Rattle.std.proofs.lemmas.Int.{ints, clamps}
 use Rattle.std.specs.Int.{int_min, int_max, int_signum}
 use Rattle.int_laws.proofs.Sums.{int_sums}
 use Rattle.int_laws.proofs.Products.{mul_comm, mul_assoc, mul-neg, neg-mul, le_mul, le_mul_negative, mul_positive, one-mul, zero-mul, lt_of_mul, le_of_mul}
-use Rattle.flex_num.specs.Division.{floor_of, ceil_of}
-use Rattle.flex_num.proofs.DivisionLemmas.{floor_of-is, ceil_of-is, floor_greatest, below_floor, ceiling_least, above_ceiling}
+use Rattle.int_laws.specs.Division.{floor_of, ceil_of}
+use Rattle.int_laws.proofs.DivisionLemmas.{floor_of-is, ceil_of-is, floor_greatest, below_floor, ceiling_least, above_ceiling}
 use Rattle.flex_interval.specs.Ends.{Ends, IsInterval}
 use Rattle.flex_interval.specs.Fraction.{Fraction, Within, over, negated, scaled}
 use Rattle.flex_interval.specs.Operations.{ends, quotients, quotient_down, quotient_up, neg_of, holds_zero}

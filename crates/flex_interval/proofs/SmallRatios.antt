@@ -5,8 +5,8 @@ use Rattle.std.specs.Int.{int_min, int_max}
 use Rattle.std.proofs.lemmas.Bool.Decides.{nat_tests}
 use Rattle.int_laws.proofs.Sums.{int_sums}
 use Rattle.int_laws.proofs.Products.{le_mul, mul_nonnegative, zero-mul}
-use Rattle.flex_num.specs.Division.{floor_of, ceil_of}
-use Rattle.flex_num.proofs.DivisionLemmas.{floor_of-is, ceil_of-is, floor_greatest, ceiling_least}
+use Rattle.int_laws.specs.Division.{floor_of, ceil_of}
+use Rattle.int_laws.proofs.DivisionLemmas.{floor_of-is, ceil_of-is, floor_greatest, ceiling_least}
 use Rattle.flex_interval.specs.Ends.{Ends}
 use Rattle.flex_interval.specs.Operations.{ends, product_of, multiple_of, ratio_of}
 

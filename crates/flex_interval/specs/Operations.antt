@@ -1,7 +1,7 @@
 -- The interval that each operation answers, or its fault: exact ends, rounded outwards.
 use Rattle.std.specs.Prelude.{ℕ, suc, ◌^◌, Bool, ◌&&◌, ℤ, pos, negsuc, ◌+ℤ◌, ◌-ℤ◌, ◌*ℤ◌, neg_ℤ, unsigned_abs, int_lt, int_le, nat_lt, Result, Ok, Err, if◌then◌else◌}
 use Rattle.std.specs.Int.{int_min, int_max}
-use Rattle.flex_num.specs.Division.{floor_of, ceil_of}
+use Rattle.int_laws.specs.Division.{floor_of, ceil_of}
 use Rattle.flex_num.specs.Root.{root_of, root_up_of, cube_root_of, cube_root_up_of}
 use Rattle.flex_interval.specs.Ends.{Ends}
 use Rattle.flex_interval.specs.declared.fault.IvFault.{IvFault}

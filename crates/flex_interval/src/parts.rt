@@ -1,5 +1,5 @@
 ghost use Rattle.std.specs.Prelude.{◌≡◌, ◌^◌, ◌<◌, pos, ◌+ℤ◌, ◌≤ℤ◌, unsigned_abs};
-ghost use Rattle.flex_num.specs.Division.{IsFloor};
+ghost use Rattle.int_laws.specs.Division.{IsFloor};
 ghost use Rattle.flex_interval.specs.Operations.{middle_of, radius_of};
 
 use crate::interval::Iv;

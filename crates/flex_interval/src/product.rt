@@ -1,5 +1,5 @@
 ghost use Rattle.std.specs.Prelude.{◌≡◌, ◌^◌, ◌<◌, ◌≤◌, pos, unsigned_abs, IfOk};
-ghost use Rattle.flex_num.specs.Division.{floor_of, ceil_of};
+ghost use Rattle.int_laws.specs.Division.{floor_of, ceil_of};
 ghost use Rattle.flex_interval.specs.Fraction.{Fraction, Within, times};
 ghost use Rattle.flex_interval.specs.Operations.{products_of, mul_of};
 

@@ -1,6 +1,6 @@
 ghost use Rattle.std.specs.Prelude.{◌≡◌, false, ◌≤◌, pos, ◌≤ℤ◌, ◌<ℤ◌, IfOk};
 ghost use Rattle.std.specs.Int.{int_min, int_max};
-ghost use Rattle.flex_num.specs.Division.{floor_of, ceil_of};
+ghost use Rattle.int_laws.specs.Division.{floor_of, ceil_of};
 ghost use Rattle.flex_interval.specs.Fraction.{Fraction, Within, over};
 ghost use Rattle.flex_interval.specs.Operations.{holds_zero, quotients, div_of};
 

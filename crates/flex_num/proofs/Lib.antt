@@ -1,3 +1,2 @@
-pub mod DivisionLemmas
 pub mod RootLemmas
 pub mod CubeRootLemmas

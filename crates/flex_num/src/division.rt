@@ -1,5 +1,5 @@
 ghost use Rattle.std.specs.Prelude.{◌≡◌, pos, ◌<ℤ◌};
-ghost use Rattle.flex_num.specs.Division.{IsFloor, IsCeiling, IsNearest, floor_of, ceil_of, nearest_of};
+ghost use Rattle.int_laws.specs.Division.{IsFloor, IsCeiling, IsNearest, floor_of, ceil_of, nearest_of};
 
 /// `n / d` rounded down, for a positive `d`.
 pub fn floor_div(n: i128, d: i128) -> i128

@@ -3,3 +3,4 @@ pub mod Products
 pub mod SumLaws
 pub mod Powers
 pub mod FormLaws
+pub mod DivisionLemmas

@@ -54,6 +54,10 @@ mul_assoc a b c = same_in _ _ (simp (up-mul, down-mul) (omega arith))
 pub mul_swap : (a b c : ℤ) → a *ℤ (b *ℤ c) ≡ b *ℤ (a *ℤ c)
 mul_swap a b c = same_in _ _ (simp (up-mul, down-mul) (omega arith))
 
+-- the first and the last of three factors change places
+pub mul_turn : (a b c : ℤ) → a *ℤ (b *ℤ c) ≡ c *ℤ (b *ℤ a)
+mul_turn a b c = same_in _ _ (simp (up-mul, down-mul) (omega arith))
+
 -- the two last factors change places
 pub mul_right_comm : (a b c : ℤ) → (a *ℤ b) *ℤ c ≡ (a *ℤ c) *ℤ b
 mul_right_comm a b c = same_in _ _ (simp (up-mul, down-mul) (omega arith))
@@ -114,6 +118,21 @@ same_of_mul c a b positive h =
     let below = le_of_mul c a b positive (omega (arith, int_sums)) in
     let above = le_of_mul c b a positive (omega (arith, int_sums)) in
     omega (arith, int_sums)
+
+-- nothing but 0 lies between 0 and 0
+pub between_zeros : (n d : ℤ) → (pos 0 *ℤ d) ≤ℤ n → n ≤ℤ (pos 0 *ℤ d) → n ≡ pos 0
+between_zeros n d low high = omega (arith, int_sums, zero-mul d, low, high)
+
+-- ---- num / den and n / d are one number: what lies below and above one lies below and above the other
+pub moved_below : (e num den n d : ℤ) → pos 0 <ℤ den → pos 0 ≤ℤ d → num *ℤ d ≡ n *ℤ den → (e *ℤ den) ≤ℤ num → (e *ℤ d) ≤ℤ n
+moved_below e num den n d positive h same low =
+    let scaled = le_mul d h low in
+    le_of_mul den (e *ℤ d) n positive (omega (arith, int_sums, scaled, same, mul_right_comm e den d))
+
+pub moved_above : (e num den n d : ℤ) → pos 0 <ℤ den → pos 0 ≤ℤ d → num *ℤ d ≡ n *ℤ den → num ≤ℤ (e *ℤ den) → n ≤ℤ (e *ℤ d)
+moved_above e num den n d positive h same high =
+    let scaled = le_mul d h high in
+    le_of_mul den n (e *ℤ d) positive (omega (arith, int_sums, scaled, same, mul_right_comm e den d))
 
 -- ---- squares
 pub square_less : (k r : ℤ) → pos 0 ≤ℤ k → k <ℤ r → (k *ℤ k) <ℤ (r *ℤ r)

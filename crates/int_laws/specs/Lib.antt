@@ -1,3 +1,4 @@
 pub mod Sums
 pub mod Powers
 pub mod Matrices
+pub mod Division

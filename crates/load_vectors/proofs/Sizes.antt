@@ -6,8 +6,8 @@ use Rattle.std.proofs.lemmas.Int.{ints, clamps}
 use Rattle.std.proofs.lemmas.Bool.Decides.{nat_tests}
 use Rattle.int_laws.proofs.Sums.{int_sums}
 use Rattle.int_laws.proofs.Products.{le_mul, le_of_mul, lt_of_mul}
-use Rattle.flex_num.specs.Division.{IsFloor, IsCeiling, floor_of, ceil_of}
-use Rattle.flex_num.proofs.DivisionLemmas.{floor_of-is, ceil_of-is}
+use Rattle.int_laws.specs.Division.{IsFloor, IsCeiling, floor_of, ceil_of}
+use Rattle.int_laws.proofs.DivisionLemmas.{floor_of-is, ceil_of-is}
 use Rattle.flex_interval.specs.Ends.{Ends}
 use Rattle.flex_interval.specs.Operations.{ends, small_of, multiple_of, ratio_of, add_of}
 use Rattle.member_set.specs.Interval.{Outcome}

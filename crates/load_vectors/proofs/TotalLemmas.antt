@@ -4,15 +4,13 @@ use Rattle.std.specs.Prelude.{Result}
 use Rattle.std.proofs.lemmas.Int.{ints}
 use Rattle.std.proofs.lemmas.Bool.Decides.{nat_tests}
 use Rattle.int_laws.proofs.Sums.{int_sums}
-use Rattle.int_laws.proofs.Products.{mul-add, mul_comm}
+use Rattle.int_laws.proofs.Products.{moved_below, moved_above}
 use Rattle.int_laws.specs.Sums.{sum_below}
 use Rattle.flex_interval.specs.Ends.{Ends}
 use Rattle.flex_interval.specs.Fraction.{Within, plus, scaled, whole}
 use Rattle.flex_interval.specs.Operations.{and_then, add_of}
 use Rattle.member_set.specs.Members.{nothing, load_of}
 use Rattle.member_set.specs.Interval.{Outcome, limited_force}
-use Rattle.member_set.proofs.Fractions.{sum_within, within-moved}
-use Rattle.member_set.proofs.Turns.{in_turn-next}
 use Rattle.model_types.specs.Lists.{Lists}
 use Rattle.model_types.specs.declared.records.Record.TheVariants as record_of
 use Rattle.model_types.specs.Rules.{IsModel, Keeps}
@@ -26,12 +24,25 @@ use Rattle.load_vectors.proofs.Sizes.{IsOfForces-more, units_of-zero, add_of-not
 
 -- a sum and a part more, in units
 pub units_sum_within : (e : Ends) (sum part : ℤ) → Within e (plus (in_units sum) (in_units part)) → Within e (in_units (sum +ℤ part))
+unfolding plus
 units_sum_within e sum part w =
-    rw (mul-add (pos (2 ^ 40)) sum part) (sum_within e (pos (2 ^ 40) *ℤ sum) (pos (2 ^ 40) *ℤ part) (pos 1000) (omega (arith, ints)) w)
+    let same : ((pos (2 ^ 40) *ℤ sum) *ℤ pos 1000 +ℤ (pos (2 ^ 40) *ℤ part) *ℤ pos 1000) *ℤ pos 1000
+    ≡ (pos (2 ^ 40) *ℤ (sum +ℤ part)) *ℤ (pos 1000 *ℤ pos 1000) = omega (arith, ints) in
+    record {
+      defined = omega (arith, ints);
+      at_least = moved_below e.lo _ _ _ (pos 1000) w.defined (omega (arith, ints)) same w.at_least;
+      at_most = moved_above e.hi _ _ _ (pos 1000) w.defined (omega (arith, ints)) same w.at_most;
+    }
 
 pub scaled_within : (e : Ends) (part : ℤ) → Within e (scaled (whole part) (pos (2 ^ 40)) (pos 1000)) → Within e (in_units part)
 unfolding scaled whole
-scaled_within e part w = within-moved e _ _ (pos (2 ^ 40) *ℤ part) (pos 1000) (omega (arith, ints)) (ap (λ (z : ℤ). z *ℤ pos 1000) (mul_comm part (pos (2 ^ 40)))) w
+scaled_within e part w =
+    let same : (part *ℤ pos (2 ^ 40)) *ℤ pos 1000 ≡ (pos (2 ^ 40) *ℤ part) *ℤ (pos 1 *ℤ pos 1000) = omega (arith, ints) in
+    record {
+      defined = omega (arith, ints);
+      at_least = moved_below e.lo _ _ _ (pos 1000) w.defined (omega (arith, ints)) same w.at_least;
+      at_most = moved_above e.hi _ _ _ (pos 1000) w.defined (omega (arith, ints)) same w.at_most;
+    }
 
 -- ---- one row
 -- what a part more makes of a sum
@@ -46,7 +57,7 @@ term_is m case row n part is = ap units_of is
 more_total : (m : Lists) (case row n : ℕ) (e r : Ends) (part : ℤ) → force_on m case row n ≡ part → IsTotal m case row n e → IsMore e r part → IsTotal m case row (n + 1) r
 more_total m case row n e r part is t more =
     record {
-      value = in_turn-next add_of nothing (load_term m case row) n e t.value ∙ ap (λ (o : Outcome). and_then o (add_of e)) (term_is m case row n part is) ∙ more.value;
+      value = rw (add-one n, t.value) (ap (λ (o : Outcome). and_then o (add_of e)) (term_is m case row n part is) ∙ more.value);
       within = rw (add-one n, is) (more.within (sum_below n (force_on m case row)) t.within);
       size = more.size n t.size;
     }

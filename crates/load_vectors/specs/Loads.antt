@@ -55,12 +55,12 @@ pub record IsFirstWideLoad (m : Lists) (case row : ℕ) : Type 0 where
   pub before : (i : ℕ) → i < row → IsOk (row_load m case i)
 
 -- the exact load of a row: all forces' parts, mN as units
-abbrev pub exact_load : Lists → ℕ → ℕ → Fraction
-exact_load m case row = record { num = pos (2 ^ 40) *ℤ sum_below (length m.forces) (force_on m case row); den = pos 1000 }
+abbrev pub forces_load : Lists → ℕ → ℕ → Fraction
+forces_load m case row = record { num = pos (2 ^ 40) *ℤ sum_below (length m.forces) (force_on m case row); den = pos 1000 }
 
 -- each exact load lies in its interval
 abbrev pub EncloseLoads : Lists → ℕ → List Ends → Type 0
-EncloseLoads m case loads = (row : ℕ) → row < 6 * length m.nodes → Within (load_of loads row) (exact_load m case row)
+EncloseLoads m case loads = (row : ℕ) → row < 6 * length m.nodes → Within (load_of loads row) (forces_load m case row)
 
 -- nothing but forces acts in the case: no weight, no hanger load, no change of temperature, no pressure
 pub record HasForcesAlone (c : Case) : Type 0 where

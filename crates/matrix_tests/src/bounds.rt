@@ -1,7 +1,6 @@
 //! One node that six members of one stiffness hold, each in one freedom.
 ghost use Rattle.std.specs.Prelude.{◌≡◌, ◌^◌, ◌<◌, ◌≤◌, [], All, length, unsigned_abs, IfOk, IsTrue};
-ghost use Rattle.member_set.specs.Members.{IsBuilt, IsModerate, row_count};
-ghost use Rattle.certificate.specs.Bounds.{IsStiff, AreStiff};
+ghost use Rattle.member_set.specs.Members.{IsBuilt, IsModerate, row_count, IsStiff, AreStiff};
 
 use crate::makers::{counted, one_node};
 use certificate::{EncloseFault, Enclosure, enclose};

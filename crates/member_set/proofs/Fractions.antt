@@ -1,7 +1,7 @@
 -- How a number within an interval is written over another denominator.
 use Rattle.std.proofs.Common.{◌≡◌, ◌∙◌, sym, ap, subst, arith, ◌^◌, ℤ, pos, neg_ℤ, ◌+ℤ◌, ◌-ℤ◌, ◌*ℤ◌, ◌<ℤ◌}
 use Rattle.int_laws.proofs.Sums.{int_sums}
-use Rattle.int_laws.proofs.Products.{mul_comm, mul_assoc, mul_right_comm, one-mul, add-mul, neg-mul, sub-mul, le_mul, le_of_mul, mul_positive}
+use Rattle.int_laws.proofs.Products.{mul_comm, mul_assoc, one-mul, add-mul, neg-mul, sub-mul, moved_below, moved_above, mul_positive}
 use Rattle.flex_interval.specs.Ends.{Ends}
 use Rattle.flex_interval.specs.Fraction.{Fraction, Within, plus, minus, negated, times, whole}
 use Rattle.member_set.specs.declared.members.Law.{Law}
@@ -21,12 +21,10 @@ ruleset factors = (mul_assoc, mul_comm, left_comm, mul_one, one-mul)
 -- the same number over another denominator
 pub within-moved : (e : Ends) (num den n d : ℤ) → pos 0 <ℤ d → num *ℤ d ≡ n *ℤ den → Within e (fraction num den) → Within e (fraction n d)
 within-moved e num den n d positive same w =
-    let low = le_mul d (omega (arith, int_sums)) w.at_least in
-    let high = le_mul d (omega (arith, int_sums)) w.at_most in
     record {
       defined = positive;
-      at_least = le_of_mul den (e.lo *ℤ d) n w.defined (omega (arith, int_sums, low, same, mul_right_comm e.lo den d));
-      at_most = le_of_mul den n (e.hi *ℤ d) w.defined (omega (arith, int_sums, high, same, mul_right_comm e.hi den d));
+      at_least = moved_below e.lo num den n d w.defined (omega (arith, int_sums)) same w.at_least;
+      at_most = moved_above e.hi num den n d w.defined (omega (arith, int_sums)) same w.at_most;
     }
 
 -- ---- what sums, differences and products of enclosures enclose, each over the one denominator it has in the end

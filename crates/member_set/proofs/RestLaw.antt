@@ -24,18 +24,18 @@ lower_law_within : (law : Law) → (start_of law).lo ≤ℤ (start_of law).hi �
 lower_law_within (Linear offset) ordered = lower_within offset ordered
 
 pub lower_ends_are_realisation : LowerEndsAreRealisation
-lower_ends_are_realisation b laws loads hold =
+lower_ends_are_realisation s hold =
     record {
       positive = omega (arith, ints);
       all_rows = refl;
       all_members = refl;
       member_within = λ k inside.
           record {
-            stiffness_within = lower_within (member_of b k).kappa (hold.stiffnesses k inside);
-            shape_within = λ row. lower_within (shape_at (member_of b k) row) (hold.shapes k row inside);
-            law_within = lower_law_within (law_of laws k) (hold.starts k inside);
+            stiffness_within = lower_within (member_of s.structure k).kappa (hold.stiffnesses k inside);
+            shape_within = λ row. lower_within (shape_at (member_of s.structure k) row) (hold.shapes k row inside);
+            law_within = lower_law_within (law_of s.laws k) (hold.starts k inside);
           };
-      load_within = λ row inside. lower_within (load_of loads row) (hold.loads_hold row inside);
+      load_within = λ row inside. lower_within (load_of s.loads row) (hold.loads_hold row inside);
     }
 
 times_zero : (a : ℤ) → a *ℤ pos 0 ≡ pos 0
@@ -53,7 +53,7 @@ no_force q rows m within =
     ap (λ (z : ℤ). m.stiffness *ℤ stretch q m.law z) reach ∙ ap (λ (z : ℤ). m.stiffness *ℤ z) (no_stretch q m.law within) ∙ times_zero m.stiffness
 
 pub rest_is_equilibrium : RestIsEquilibrium
-rest_is_equilibrium b laws loads r rest real row inside =
+rest_is_equilibrium s r rest real row inside =
     let q = r.denominator in
     let load = nothing_is_zero (r.load row) q (subst (λ (e : Ends). Within e (fraction (r.load row) q)) (rest.no_load row (rw (← real.all_rows) inside)) (real.load_within row inside)) in
     let unloaded : exact_load r row ≡ pos 0 = ap (λ (z : ℤ). (pos (2 ^ 148) *ℤ ((q *ℤ q) *ℤ q)) *ℤ z) load ∙ times_zero (pos (2 ^ 148) *ℤ ((q *ℤ q) *ℤ q)) in

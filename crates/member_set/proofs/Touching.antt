@@ -11,7 +11,7 @@ use Rattle.int_laws.proofs.SumLaws.{sum_below-reindexed}
 use Rattle.member_set.specs.declared.members.Member.{Member}
 use Rattle.member_set.specs.declared.members.Built.{Built}
 use Rattle.member_set.specs.declared.members.Law.{Law}
-use Rattle.member_set.specs.Members.{load_of, force_of, row_count, IsBuilt, member_of, members_at, node_count, no_member, nothing, shape_at}
+use Rattle.member_set.specs.Members.{load_of, force_of, row_count, IsBuilt, member_of, members_at, node_count, no_member, nothing, shape_at, system}
 use Rattle.member_set.specs.Interval.{Outcome, in_turn, pull_of, residual_term, residual_with, residual_of, forces_of, AreForces}
 use Rattle.member_set.proofs.Turns.{in_turn-next, in_turn-fault, in_turn-same, in_turn-some_fault}
 use Rattle.flex_interval.specs.Ends.{Ends}
@@ -107,13 +107,13 @@ residual_with-same b built loads f g row inside same =
     (λ t below. rw (same (slice_index (members_at b (row / 6)) t) (numbers_in_range b built (row / 6) t (omega arith) below)))
 
 pub residual_from-forces : (b : Built) → IsBuilt b → (laws : List Law) (loads : List Ends) (u : List ℤ) (forces : List Ends) (row : ℕ) → row < row_count b →
-    AreForces b laws u forces → residual_with b loads (λ k. ok_of (force_of forces k)) row ≡ residual_of b laws loads u row
+    AreForces b laws u forces → residual_with b loads (λ k. ok_of (force_of forces k)) row ≡ residual_of (system b laws loads) u row
 residual_from-forces b built laws loads u forces row inside are =
     residual_with-same b built loads (λ k. ok_of (force_of forces k)) (forces_of b laws u) row inside (λ k below. sym (are.value k below))
 
 -- where a member has no force, a row of its first node has no residual
 pub residual-without_force : (b : Built) → IsBuilt b → (laws : List Law) (u : List ℤ) (k : ℕ) (fault : IvFault) → k < length b.members →
-    forces_of b laws u k ≡ Err fault → (loads : List Ends) → (row : ℕ) × (row < row_count b) × IsErr (residual_of b laws loads u row)
+    forces_of b laws u k ≡ Err fault → (loads : List Ends) → (row : ℕ) × (row < row_count b) × IsErr (residual_of (system b laws loads) u row)
 unfolding residual_with
 residual-without_force b built laws u k fault inside none loads =
     let node = (member_of b k).n1 in

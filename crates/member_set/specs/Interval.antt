@@ -1,5 +1,5 @@
 -- The interval that each call answers, or its fault, rounding by rounding.
-use Rattle.std.specs.Prelude.{◌≡◌, ◌<◌, ℕ, zero, suc, ◌+◌, ◌-◌, ◌*◌, ◌/◌, ◌^◌, ◌&&◌, ◌==◌, nat_lt, List, length, slice_index, slice_index_or, ℤ, pos, unsigned_abs, Result, Ok, Err, if◌then◌else◌}
+use Rattle.std.specs.Prelude.{◌≡◌, ◌<◌, ◌≤◌, ℕ, zero, suc, ◌+◌, ◌-◌, ◌*◌, ◌/◌, ◌^◌, ◌&&◌, ◌==◌, nat_lt, List, length, slice_index, slice_index_or, ℤ, pos, unsigned_abs, Result, Ok, Err, if◌then◌else◌}
 use Rattle.flex_interval.specs.Ends.{Ends}
 use Rattle.flex_interval.specs.Operations.{and_then, point_of, add_of, sub_of, mul_of}
 use Rattle.flex_interval.specs.declared.fault.IvFault.{IvFault}
@@ -8,7 +8,7 @@ use Rattle.member_set.specs.declared.members.Member.{Member}
 use Rattle.member_set.specs.declared.members.Law.{Law}
 use Rattle.member_set.specs.declared.members.Law.TheVariants.{Linear}
 use Rattle.member_set.specs.declared.members.Built.{Built}
-use Rattle.member_set.specs.Members.{nothing, shape_at, member_of, law_of, load_of, force_of, members_at}
+use Rattle.member_set.specs.Members.{nothing, shape_at, member_of, law_of, load_of, force_of, members_at, System}
 
 -- an interval, or why there is none
 abbrev pub Outcome : Type 0
@@ -18,6 +18,11 @@ Outcome = Result Ends IvFault
 abbrev pub in_turn : (Ends → Ends → Outcome) → Ends → (ℕ → Outcome) → ℕ → Outcome
 in_turn step start term zero = Ok start
 in_turn step start term (suc n) = and_then (in_turn step start term n) (λ total. and_then (term n) (λ e. step total e))
+
+-- a fault stays to the end
+abbrev pub FaultsStay : Type 0
+FaultsStay = (step : Ends → Ends → Outcome) (start : Ends) (term : ℕ → Outcome) (k n : ℕ) (fault : IvFault) →
+    k ≤ n → in_turn step start term k ≡ Err fault → in_turn step start term n ≡ Err fault
 
 -- how many shape numbers a member has: a member at one node only has the first six
 abbrev pub place_count : Member → ℕ
@@ -66,8 +71,8 @@ abbrev pub forces_of : Built → List Law → List ℤ → ℕ → Outcome
 forces_of b laws u k = member_force_of (member_of b k) (law_of laws k) u
 
 -- the same, where the forces are those of displacements u
-abbrev pub residual_of : Built → List Law → List Ends → List ℤ → ℕ → Outcome
-residual_of b laws loads u row = residual_with b loads (forces_of b laws u) row
+abbrev pub residual_of : System → List ℤ → ℕ → Outcome
+residual_of s u row = residual_with s.structure s.loads (forces_of s.structure s.laws u) row
 
 -- the list has each member's force at displacements u
 pub record AreForces (b : Built) (laws : List Law) (u : List ℤ) (forces : List Ends) : Type 0 where

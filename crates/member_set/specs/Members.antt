@@ -1,5 +1,5 @@
 -- Members, their nodes and their rows. Freedom f of node n, `ux uy uz rx ry rz`, has row `6 n + f`.
-use Rattle.std.specs.Prelude.{ℕ, ◌+◌, ◌*◌, ◌/◌, ◌%◌, ◌<◌, ◌≡◌, ◌==◌, ◌⊎◌, ◌↔◌, List, [], length, slice_index_or, Contains, AllPairs, ℤ, pos, if◌then◌else◌, All, unsigned_abs, ◌≤◌, ◌^◌}
+use Rattle.std.specs.Prelude.{ℕ, ◌+◌, ◌*◌, ◌/◌, ◌%◌, ◌<◌, ◌≡◌, ◌==◌, ◌⊎◌, ◌↔◌, List, [], length, slice_index_or, Contains, AllPairs, ℤ, pos, ◌≤ℤ◌, ◌<ℤ◌, if◌then◌else◌, All, unsigned_abs, ◌≤◌, ◌^◌}
 use Rattle.flex_interval.specs.Ends.{Ends}
 use Rattle.member_set.specs.declared.members.Member.{Member}
 use Rattle.member_set.specs.declared.members.Law.{Law}
@@ -64,10 +64,29 @@ pub record IsBuilt (b : Built) : Type 0 where
   pub touching : (node k : ℕ) → node < node_count b →
       Contains (members_at b node) k ↔ ((k < length b.members) × Touches (member_of b k) node)
 
--- one law a member, one load a row
-pub record FitsBuilt (b : Built) (laws : List Law) (loads : List Ends) : Type 0 where
-  pub one_law_each : length laws ≡ length b.members
-  pub one_load_each : length loads ≡ row_count b
+-- a stiffness is from 1 to below 2^61, in units of 2^-20 N/m
+pub record IsStiff (kappa : Ends) : Type 0 where
+  pub at_least : pos 1 ≤ℤ kappa.lo
+  pub below : kappa.hi <ℤ pos (2 ^ 61)
+
+-- each member's is
+abbrev pub AreStiff : Built → Type 0
+AreStiff b = (k : ℕ) → k < length b.members → IsStiff (member_of b k).kappa
+
+-- a structure, the law of each member, and the load of each row, in units of 2^-40 N or N m
+pub record System : Type 0 where
+  pub structure : Built
+  pub laws : List Law
+  pub loads : List Ends
+
+abbrev pub system : Built → List Law → List Ends → System
+system structure laws loads = record { structure = structure; laws = laws; loads = loads }
+
+-- the structure is built, with one law a member and one load a row
+pub record IsSystem (s : System) : Type 0 where
+  pub built : IsBuilt s.structure
+  pub one_law_each : length s.laws ≡ length s.structure.members
+  pub one_load_each : length s.loads ≡ row_count s.structure
 
 -- a displacement is at most 2^60 in size, in units of 2^-56 m or rad
 abbrev pub IsModerate : List ℤ → Type 0

@@ -3,16 +3,15 @@
 --
 -- A number of a realisation stands over the realisation's denominator, in the unit of its enclosure: stiffnesses in
 -- 2^-20 N/m, shape numbers in 2^-56, displacements and initial deformations in 2^-56 m or rad, loads in 2^-40 N or N m.
-use Rattle.std.specs.Prelude.{ℕ, ◌^◌, ◌<◌, ◌≡◌, List, length, slice_index_or, ℤ, pos, ◌-ℤ◌, ◌*ℤ◌, ◌<ℤ◌, ◌≤ℤ◌}
+use Rattle.std.specs.Prelude.{ℕ, ◌^◌, ◌<◌, ◌≡◌, List, length, slice_index_or, Bool, true, if◌then◌else◌, ℤ, pos, ◌-ℤ◌, ◌*ℤ◌, ◌<ℤ◌, ◌≤ℤ◌}
 use Rattle.int_laws.specs.Sums.{sum_below}
-use Rattle.int_laws.specs.Matrices.{Vector}
+use Rattle.int_laws.specs.Matrices.{Vector, Entries}
 use Rattle.flex_interval.specs.Ends.{Ends}
 use Rattle.flex_interval.specs.Fraction.{Fraction, Within}
 use Rattle.member_set.specs.declared.members.Member.{Member}
 use Rattle.member_set.specs.declared.members.Law.{Law}
 use Rattle.member_set.specs.declared.members.Law.TheVariants.{Linear}
-use Rattle.member_set.specs.declared.members.Built.{Built}
-use Rattle.member_set.specs.Members.{nothing, shape_at, start_of, member_of, law_of, load_of, force_of, row_count}
+use Rattle.member_set.specs.Members.{nothing, shape_at, start_of, member_of, law_of, load_of, force_of, row_count, System}
 
 -- n / q
 abbrev pub fraction : ℤ → ℤ → Fraction
@@ -48,12 +47,12 @@ pub record IsMemberWithin (q : ℤ) (m : Member) (law : Law) (x : ExactMember) :
   pub law_within : IsLawWithin q law x.law
 
 -- each stiffness, shape number, initial deformation and load is within its interval, whatever the others are
-pub record IsRealisation (b : Built) (laws : List Law) (loads : List Ends) (r : Realisation) : Type 0 where
+pub record IsRealisation (s : System) (r : Realisation) : Type 0 where
   pub positive : pos 0 <ℤ r.denominator
-  pub all_rows : r.rows ≡ row_count b
-  pub all_members : r.members ≡ length b.members
-  pub member_within : (k : ℕ) → k < r.members → IsMemberWithin r.denominator (member_of b k) (law_of laws k) (r.member k)
-  pub load_within : (row : ℕ) → row < r.rows → Within (load_of loads row) (fraction (r.load row) r.denominator)
+  pub all_rows : r.rows ≡ row_count s.structure
+  pub all_members : r.members ≡ length s.structure.members
+  pub member_within : (k : ℕ) → k < r.members → IsMemberWithin r.denominator (member_of s.structure k) (law_of s.laws k) (r.member k)
+  pub load_within : (row : ℕ) → row < r.rows → Within (load_of s.loads row) (fraction (r.load row) r.denominator)
 
 -- ---- forces and equilibrium at displacements U, whole numbers over the denominator q
 
@@ -83,6 +82,24 @@ exact_load r row = (pos (2 ^ 148) *ℤ ((r.denominator *ℤ r.denominator) *ℤ 
 -- every row is in balance
 abbrev pub IsEquilibrium : Realisation → Vector → Type 0
 IsEquilibrium r u = (row : ℕ) → row < r.rows → resistance r u row ≡ exact_load r row
+
+-- ---- the stiffness matrix
+
+-- 2^112 q^3: a product of a stiffness and two shape numbers is so many times its value in 2^-20 N/m
+abbrev pub entry_unit : ℤ → ℤ
+entry_unit q = pos (2 ^ 112) *ℤ ((q *ℤ q) *ℤ q)
+
+-- every member takes part
+abbrev pub every_member : ℕ → Bool
+every_member k = true
+
+-- the entry in a row and column: the sum of W_row K W_col over the members that take part, 2^112 q^3 times its value
+abbrev pub exact_entry : (ℕ → Bool) → Realisation → Entries
+exact_entry takes_part r row col =
+    sum_below r.members (λ k.
+    if takes_part k then (r.member k).shape row *ℤ ((r.member k).stiffness *ℤ (r.member k).shape col) else pos 0)
+
+-- ---- displacements in whole units
 
 -- displacements u in whole units, over the denominator q
 abbrev pub displaced : ℤ → List ℤ → Vector
@@ -114,34 +131,37 @@ exact_residual r u row = pull_fraction r.denominator (exact_load r row -ℤ resi
 abbrev pub lower_law : Law → ExactLaw
 lower_law (Linear offset) = linear offset.lo
 
-abbrev pub lower_ends : Built → List Law → List Ends → Realisation
-lower_ends b laws loads =
+abbrev pub lower_ends : System → Realisation
+lower_ends s =
     record {
       denominator = pos 1;
-      rows = row_count b;
-      members = length b.members;
-      member = λ k. record { stiffness = (member_of b k).kappa.lo; shape = λ row. (shape_at (member_of b k) row).lo; law = lower_law (law_of laws k) };
-      load = λ row. (load_of loads row).lo;
+      rows = row_count s.structure;
+      members = length s.structure.members;
+      member = λ k. record {
+        stiffness = (member_of s.structure k).kappa.lo;
+        shape = λ row. (shape_at (member_of s.structure k) row).lo;
+        law = lower_law (law_of s.laws k);
+      };
+      load = λ row. (load_of s.loads row).lo;
     }
 
 -- every interval holds a number
-pub record HoldNumbers (b : Built) (laws : List Law) (loads : List Ends) : Type 0 where
-  pub stiffnesses : (k : ℕ) → k < length b.members → (member_of b k).kappa.lo ≤ℤ (member_of b k).kappa.hi
-  pub shapes : (k row : ℕ) → k < length b.members → (shape_at (member_of b k) row).lo ≤ℤ (shape_at (member_of b k) row).hi
-  pub starts : (k : ℕ) → k < length b.members → (start_of (law_of laws k)).lo ≤ℤ (start_of (law_of laws k)).hi
-  pub loads_hold : (row : ℕ) → row < row_count b → (load_of loads row).lo ≤ℤ (load_of loads row).hi
+pub record HoldNumbers (s : System) : Type 0 where
+  pub stiffnesses : (k : ℕ) → k < length s.structure.members → (member_of s.structure k).kappa.lo ≤ℤ (member_of s.structure k).kappa.hi
+  pub shapes : (k row : ℕ) → k < length s.structure.members →
+      (shape_at (member_of s.structure k) row).lo ≤ℤ (shape_at (member_of s.structure k) row).hi
+  pub starts : (k : ℕ) → k < length s.structure.members → (start_of (law_of s.laws k)).lo ≤ℤ (start_of (law_of s.laws k)).hi
+  pub loads_hold : (row : ℕ) → row < row_count s.structure → (load_of s.loads row).lo ≤ℤ (load_of s.loads row).hi
 
 -- there is a realisation: that of all lower ends
 abbrev pub LowerEndsAreRealisation : Type 0
-LowerEndsAreRealisation = (b : Built) (laws : List Law) (loads : List Ends) →
-    HoldNumbers b laws loads → IsRealisation b laws loads (lower_ends b laws loads)
+LowerEndsAreRealisation = (s : System) → HoldNumbers s → IsRealisation s (lower_ends s)
 
 -- no load and no initial deformation
-pub record IsAtRest (b : Built) (laws : List Law) (loads : List Ends) : Type 0 where
-  pub no_offset : (k : ℕ) → k < length b.members → law_of laws k ≡ Linear nothing
-  pub no_load : (row : ℕ) → row < row_count b → load_of loads row ≡ nothing
+pub record IsAtRest (s : System) : Type 0 where
+  pub no_offset : (k : ℕ) → k < length s.structure.members → law_of s.laws k ≡ Linear nothing
+  pub no_load : (row : ℕ) → row < row_count s.structure → load_of s.loads row ≡ nothing
 
 -- zero displacements are an equilibrium of every realisation of a structure at rest
 abbrev pub RestIsEquilibrium : Type 0
-RestIsEquilibrium = (b : Built) (laws : List Law) (loads : List Ends) (r : Realisation) →
-    IsAtRest b laws loads → IsRealisation b laws loads r → IsEquilibrium r (λ _. pos 0)
+RestIsEquilibrium = (s : System) (r : Realisation) → IsAtRest s → IsRealisation s r → IsEquilibrium r (λ _. pos 0)

@@ -7,7 +7,9 @@ mod members;
 mod residuals;
 
 pub use forces::{law_force, reach};
-pub use laws::rest_is_equilibrium;
+pub use laws::{faults_stay, rest_is_equilibrium};
 pub use lists::Sequence;
 pub use members::{Built, Law, Member, Station};
-pub use residuals::{FORCE_LIMIT, member_force, member_forces, residual_from, residual_row, shape};
+pub use residuals::{
+    FORCE_LIMIT, member_force, member_forces, members_at, residual_from, residual_row, shape,
+};

@@ -1,5 +1,5 @@
-use lists::Sequence;
 use flex_interval::Iv;
+use lists::Sequence;
 
 /// A member of a structure: an axial, bending or torsional mode of an element, or a restraint. Its force acts along its
 /// shape vector, and stretches by the shape vector times the displacements.

@@ -1,9 +1,10 @@
 ghost use Rattle.std.specs.Prelude.{◌≡◌, ℕ, ◌+◌, ◌*◌, ◌/◌, ◌^◌, ◌<◌, ◌≤◌, length, slice_index, unsigned_abs, ℤ, pos, ◌-ℤ◌, ◌*ℤ◌, ◌<ℤ◌, Ok, IfOk, IfErr, OnOk, IsErr, List};
+ghost use Rattle.int_laws.specs.Sums.{sum_below};
 ghost use Rattle.flex_interval.specs.Ends.{Ends};
 ghost use Rattle.flex_interval.specs.Fraction.{Within};
 ghost use Rattle.flex_interval.specs.Operations.{and_then, sub_of};
 ghost use Rattle.member_set.specs.declared.members.Law.{Law};
-ghost use Rattle.member_set.specs.Members.{IsBuilt, FitsBuilt, IsModerate, shape_at, row_count, members_at, force_of};
+ghost use Rattle.member_set.specs.Members.{IsBuilt, IsSystem, IsModerate, nothing, shape_at, member_of, row_count, members_at, force_of, system};
 ghost use Rattle.member_set.specs.Realisation.{ExactMember, IsMemberWithin, Realisation, IsRealisation, HoldForces, displaced, exact_reach, exact_force, force_in, force_fraction, pull_fraction, exact_residual, fraction};
 ghost use Rattle.int_laws.specs.Matrices.{Vector};
 ghost use Rattle.member_set.specs.Interval.{limited_force, AreForces, member_force_of, pull_of, residual_with, residual_of};
@@ -87,12 +88,17 @@ fn less_member(m: &Member, law: &Law, u: &[i128], row: u32, rest: Iv) -> Result<
     less_pull(m, row, rest, member_force(m, law, u)?)
 }
 
-/// The numbers of the members at a row's node.
-fn members_at(b: &Built, row: u32) -> &[u32]
+/// The numbers of the members at a row's node, rising.
+pub fn members_at(b: &Built, row: u32) -> &[u32]
     requires built { IsBuilt b.now }
     requires row_in_range { row < row_count b.now }
     ensures numbers { result.now ≡ members_at b.now (row / 6) }
     ensures in_range { (t : ℕ) → t < length result.now → slice_index result.now t < length b.now.members }
+    // A sum over all members is one over these, where no other has a part in it.
+    ensures sums { (weight force : ℕ → ℤ) →
+        ((k : ℕ) → k < length b.now.members → shape_at (member_of b.now k) row ≡ nothing → weight k ≡ pos 0) →
+        sum_below (length result.now) (λ t. weight (slice_index result.now t) *ℤ force (slice_index result.now t))
+        ≡ sum_below (length b.now.members) (λ k. weight k *ℤ force k) }
 {
     b.at.as_slice()[(row / 6) as usize].as_slice()
 }
@@ -105,9 +111,9 @@ pub fn member_forces(b: &Built, laws: &[Law], u: &[i128], forces: &mut [Iv]) -> 
     requires moderate { IsModerate u.now }
     requires one_force_each { length forces.old ≡ length b.now.members }
     ensures forces { OnOk result (AreForces b.now laws.now u.now forces.new) }
-    ensures within { OnOk result ((loads : List Ends) (r : Realisation) → IsRealisation b.now laws.now loads r →
+    ensures within { OnOk result ((loads : List Ends) (r : Realisation) → IsRealisation (system b.now laws.now loads) r →
         HoldForces r (displaced r.denominator u.now) forces.new) }
-    ensures fault { IfErr result (λ e. (loads : List Ends) → (row : ℕ) × (row < row_count b.now) × IsErr (residual_of b.now laws.now loads u.now row)) }
+    ensures fault { IfErr result (λ e. (loads : List Ends) → (row : ℕ) × (row < row_count b.now) × IsErr (residual_of (system b.now laws.now loads) u.now row)) }
 {
     for k in 0..laws.len() {
         forces[k] = member_force(&b.members.as_slice()[k], &laws[k], u)?;
@@ -122,8 +128,8 @@ pub fn residual_from(b: &Built, forces: &[Iv], loads: &[Iv], row: u32) -> Result
     requires one_force_each { length forces.now ≡ length b.now.members }
     requires row_in_range { row < row_count b.now }
     ensures value { result ≡ residual_with b.now loads.now (λ k. Ok (force_of forces.now k)) row }
-    ensures at_displacements { (laws : List Law) (u : List ℤ) → AreForces b.now laws u forces.now → result ≡ residual_of b.now laws loads.now u row }
-    ensures within { IfOk result (λ e. (laws : List Law) (r : Realisation) (u : Vector) → IsRealisation b.now laws loads.now r →
+    ensures at_displacements { (laws : List Law) (u : List ℤ) → AreForces b.now laws u forces.now → result ≡ residual_of (system b.now laws loads.now) u row }
+    ensures within { IfOk result (λ e. (laws : List Law) (r : Realisation) (u : Vector) → IsRealisation (system b.now laws loads.now) r →
         HoldForces r u forces.now → Within e (exact_residual r u row)) }
 {
     let mut rest = loads[row as usize];
@@ -147,13 +153,12 @@ pub fn residual_row(
     u: &[i128],
     row: u32,
 ) -> Result<Iv, IvFault>
-    requires built { IsBuilt b.now }
-    requires lists { FitsBuilt b.now laws.now loads.now }
+    requires system { IsSystem (system b.now laws.now loads.now) }
     requires one_displacement_each { length u.now ≡ row_count b.now }
     requires moderate { IsModerate u.now }
     requires row_in_range { row < row_count b.now }
-    ensures value { result ≡ residual_of b.now laws.now loads.now u.now row }
-    ensures within { IfOk result (λ e. (r : Realisation) → IsRealisation b.now laws.now loads.now r →
+    ensures value { result ≡ residual_of (system b.now laws.now loads.now) u.now row }
+    ensures within { IfOk result (λ e. (r : Realisation) → IsRealisation (system b.now laws.now loads.now) r →
         Within e (exact_residual r (displaced r.denominator u.now) row)) }
 {
     let mut rest = loads[row as usize];

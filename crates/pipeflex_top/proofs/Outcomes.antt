@@ -15,7 +15,7 @@ use Rattle.structure.specs.Anchors.{restraint_members}
 use Rattle.structure.specs.Elements.{element_at, members_of}
 use Rattle.member_set.specs.declared.members.Built.{Built}
 use Rattle.solve.specs.Refinement.{Problem}
-use Rattle.structure.specs.Structure.{IsStructureOf, Members, and_then, element_members, model_members, with_element}
+use Rattle.structure.specs.Structure.{IsStructureOf, Members, element_members, model_members, with_element, then_members}
 use Rattle.pipeflex_top.specs.Analysis.{text_order}
 use Rattle.sym_blocks.specs.Matrix.{Matrix, node_count}
 
@@ -49,7 +49,7 @@ IsOrder-text = record {
 -- ---- the records that a cause names
 
 -- with the members of one more element the first wide element is still among those so far
-wide_next : (n number : ℕ) (before : Members) (made : Result (List Member) Wide) → ((k : ℕ) → before ≡ Err k → k < n) → and_then before (with_element n made) ≡ Err number → number < suc n
+wide_next : (n number : ℕ) (before : Members) (made : Result (List Member) Wide) → ((k : ℕ) → before ≡ Err k → k < n) → then_members before (with_element n made) ≡ Err number → number < suc n
 wide_next n number (Ok members) (Ok more) below e = absurd (cc e)
 wide_next n number (Ok members) (Err w) below e = let same : n ≡ number = cc e in omega (arith, same)
 wide_next n number (Err k) made below e = let same : k ≡ number = cc e in omega (arith, same, below k refl)
@@ -59,7 +59,7 @@ wide_below m zero number e = absurd (cc e)
 wide_below m (suc n) number e = wide_next n number (element_members m n) (members_of m (element_at m n)) (wide_below m n) e
 
 -- a fault stays where members are put behind
-fault_before : (made : Members) (more : List Member) (number : ℕ) → and_then made (λ members. Ok (members ++ more)) ≡ Err number → made ≡ Err number
+fault_before : (made : Members) (more : List Member) (number : ℕ) → then_members made (λ members. Ok (members ++ more)) ≡ Err number → made ≡ Err number
 fault_before (Ok members) more number e = absurd (cc e)
 fault_before (Err k) more number e = e
 

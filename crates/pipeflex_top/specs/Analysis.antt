@@ -16,14 +16,14 @@ abbrev pub text_order : Plan
 text_order = plan (0 ∷ 1 ∷ []) (Some 1 ∷ None ∷ [])
 
 -- the case has a certificate
-abbrev pub IsCertified : CaseAnswer → Type 0
-IsCertified (answer.Certified u loads states) = ⊤
-IsCertified (answer.Uncertified cause guess) = ⊥
+abbrev pub IsCertifiedAnswer : CaseAnswer → Type 0
+IsCertifiedAnswer (answer.Certified u loads states) = ⊤
+IsCertifiedAnswer (answer.Uncertified cause guess) = ⊥
 
 -- how a run ends that has written the report of these answers: Done where all cases are certified, Uncertified where one isn't
 abbrev pub EndsWith : List CaseAnswer → Status → Type 0
-EndsWith answers Done = All IsCertified answers
-EndsWith answers Uncertified = ¬ (All IsCertified answers)
+EndsWith answers Done = All IsCertifiedAnswer answers
+EndsWith answers Uncertified = ¬ (All IsCertifiedAnswer answers)
 EndsWith answers _ = ⊥
 
 -- the output is the report of the answers of the model's cases, the run ends as they say, and every equilibrium is in the

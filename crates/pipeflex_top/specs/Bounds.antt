@@ -11,25 +11,25 @@ use Rattle.model_types.specs.declared.answers.Bounds.{Bounds}
 use Rattle.model_types.specs.declared.answers.CaseAnswer.{CaseAnswer}
 use Rattle.model_types.specs.declared.answers.CaseAnswer.TheVariants as answer
 use Rattle.report.specs.Report.{printed}
-use Rattle.report.specs.Rounding.{between}
+use Rattle.report.specs.Rounding.{ends_of_pair}
 
--- the bounds at a place of a list
-abbrev pub at : List Bounds → ℕ → Bounds
-at bounds place = slice_index_or bounds place (bounds_of nothing)
+-- the bounds bounds_at a place of a list
+abbrev pub bounds_at : List Bounds → ℕ → Bounds
+bounds_at bounds place = slice_index_or bounds place (bounds_of nothing)
 
 -- a displacement, in 2^-56 m or rad, is within the pair that is printed for its bounds, in nanometres or nanoradians
 abbrev pub IsPrintedDisplacement : Bounds → Fraction → Type 0
-IsPrintedDisplacement b x = Within (between (printed (pos (10 ^ 9)) (pos (2 ^ 56)) b)) (scaled x (pos (10 ^ 9)) (pos (2 ^ 56)))
+IsPrintedDisplacement b x = Within (ends_of_pair (printed (pos (10 ^ 9)) (pos (2 ^ 56)) b)) (scaled x (pos (10 ^ 9)) (pos (2 ^ 56)))
 
 -- a load, in 2^-40 N or N m, is within the pair that is printed for its bounds, in mN or mN m
 abbrev pub IsPrintedLoad : Bounds → Fraction → Type 0
-IsPrintedLoad b x = Within (between (printed (pos 1000) (pos (2 ^ 40)) b)) (scaled x (pos 1000) (pos (2 ^ 40)))
+IsPrintedLoad b x = Within (ends_of_pair (printed (pos 1000) (pos (2 ^ 40)) b)) (scaled x (pos 1000) (pos (2 ^ 40)))
 
 -- each displacement, and the force of each restraint's member, is within its printed pair
 pub record AreInPrint (m : Lists) (r : Realisation) (exact : Vector) (u loads : List Bounds) : Type 0 where
-  pub displacement : (row : ℕ) → row < r.rows → IsPrintedDisplacement (at u row) (fraction (exact row) r.denominator)
+  pub displacement : (row : ℕ) → row < r.rows → IsPrintedDisplacement (bounds_at u row) (fraction (exact row) r.denominator)
   pub load : (k : ℕ) → element_member_count m + k < r.members →
-      IsPrintedLoad (at loads k) (force_fraction r.denominator (force_in r exact (element_member_count m + k)))
+      IsPrintedLoad (bounds_at loads k) (force_fraction r.denominator (force_in r exact (element_member_count m + k)))
 
 -- certified bounds hold in print, in every equilibrium of every realisation of the model's structure under the loads of the case
 abbrev pub PrintsBounds : Lists → ℕ → CaseAnswer → Type 0

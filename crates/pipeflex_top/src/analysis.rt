@@ -1,6 +1,6 @@
 //! The report of the analysis of a model.
 ghost use Rattle.std.specs.Prelude.{◌≡◌, ◌↔◌, IfOk, IsTrue, All};
-ghost use Rattle.pipeflex_top.specs.Analysis.{IsCertified, IsReport, EndsWith};
+ghost use Rattle.pipeflex_top.specs.Analysis.{IsReport, EndsWith, IsCertifiedAnswer};
 ghost use Rattle.pipeflex_top.specs.OneStraight.{IsOneStraight};
 
 use crate::written::Written;
@@ -15,7 +15,10 @@ pub fn analysis(alloc: Global, model: &Model) -> Result<Written, NoMemory>
     requires { IsOneStraight model.now }
     ensures { IfOk result (λ written. IsReport model.now written.bytes.items written.status) }
 {
-    // What a printed pair holds.
+    // The laws by which the answers fit the model, and of what a printed pair holds.
+    structure::elements_have_eight_members();
+    bound_laws::passed_test_is_proof();
+    certificate::bounds_are_limited();
     report::printed_pairs_hold();
     let answers = answers(alloc, model, &[0, 1], &[Some(1), None])?;
     let status = ending_with(&answers);
@@ -35,7 +38,7 @@ fn ending_with(answers: &[CaseAnswer]) -> Status
 }
 
 fn all_certified(answers: &[CaseAnswer]) -> bool
-    ensures { IsTrue result ↔ All IsCertified answers.now }
+    ensures { IsTrue result ↔ All IsCertifiedAnswer answers.now }
 {
     for answer in answers {
         if !is_certified(answer) {
@@ -46,7 +49,7 @@ fn all_certified(answers: &[CaseAnswer]) -> bool
 }
 
 fn is_certified(answer: &CaseAnswer) -> bool
-    ensures { IsTrue result ↔ IsCertified answer.now }
+    ensures { IsTrue result ↔ IsCertifiedAnswer answer.now }
 {
     matches!(answer, CaseAnswer::Certified { .. })
 }

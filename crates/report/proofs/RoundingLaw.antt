@@ -3,13 +3,13 @@ use Rattle.std.proofs.Common.{◌≡◌, ◌^◌, ℤ, pos, ◌*ℤ◌, neg_ℤ,
 use Rattle.std.proofs.lemmas.Int.{ints}
 use Rattle.std.specs.Int.{w128}
 use Rattle.int_laws.proofs.Sums.{int_sums}
-use Rattle.int_laws.proofs.Products.{le_mul, mul_comm, mul_right_comm, neg-mul}
-use Rattle.flex_num.proofs.DivisionLemmas.{floor_of-is, ceil_of-is}
+use Rattle.int_laws.specs.Division.{floor_of, ceil_of}
+use Rattle.int_laws.proofs.Products.{mul_positive, le_mul, mul_comm, mul_right_comm, neg-mul}
+use Rattle.int_laws.proofs.DivisionLemmas.{floor_of-is, ceil_of-is, below_divided, above_divided}
 use Rattle.flex_interval.specs.Fraction.{scaled}
-use Rattle.flex_interval.proofs.FractionLemmas.{rounded_within}
 use Rattle.report.specs.Fits.{IsModest}
 use Rattle.report.specs.Report.{printed}
-use Rattle.report.specs.Rounding.{IsScale, PrintedHolds, between}
+use Rattle.report.specs.Rounding.{IsScale, PrintedHolds, ends_of_pair}
 
 -- a modest number times the n of a scale fits
 pub scaled_fits : (z n m : ℤ) → IsModest z → IsScale n m → FitsSigned w128 (z *ℤ n)
@@ -30,9 +30,12 @@ printed_holds n m factor positive b x within =
     let ceiling = ceil_of-is (b.hi *ℤ n) m positive in
     let low : ((b.lo *ℤ n) *ℤ x.den) ≤ℤ (x.num *ℤ n) = rw (mul_right_comm b.lo n x.den) (le_mul n factor within.at_least) in
     let high : (x.num *ℤ n) ≤ℤ ((b.hi *ℤ n) *ℤ x.den) = rw (mul_right_comm b.hi n x.den) (le_mul n factor within.at_most) in
-    let one : x.den *ℤ pos 1 ≡ x.den = omega (arith, ints) in
-    rounded_within (record { lo = b.lo *ℤ n; hi = b.hi *ℤ n }) (between (printed n m b)) (x.num *ℤ n) x.den m positive floor.at_most ceiling.at_least
-    (record { defined = rw one within.defined; at_least = rw one low; at_most = rw one high })
+    let up : pos 0 ≤ℤ x.den = omega (arith, int_sums, within.defined) in
+    record {
+      defined = mul_positive x.den m within.defined positive;
+      at_least = below_divided (floor_of (b.lo *ℤ n) m) m (b.lo *ℤ n) (x.num *ℤ n) x.den up floor.at_most low;
+      at_most = above_divided (ceil_of (b.hi *ℤ n) m) m (b.hi *ℤ n) (x.num *ℤ n) x.den up ceiling.at_least high;
+    }
 
 -- a modest number fits
 pub modest_fits : (z : ℤ) → IsModest z → FitsSigned w128 z

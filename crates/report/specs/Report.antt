@@ -3,7 +3,7 @@
 use Rattle.std.specs.Prelude.{ℕ, ◌^◌, ◌==◌, List, [], ◌∷◌, ◌++◌, length, take, drop, map, codes, ℤ, pos, ◌*ℤ◌, if◌then◌else◌, Bool, false, true}
 use Rattle.std.specs.Fmt.{decimal, signed_decimal}
 use Rattle.std.specs.List.{flat_map, slice_index_or}
-use Rattle.flex_num.specs.Division.{floor_of, ceil_of, nearest_of}
+use Rattle.int_laws.specs.Division.{floor_of, ceil_of, nearest_of}
 use Rattle.model_types.specs.Lists.{Lists}
 use Rattle.model_types.specs.declared.records.Node.{Node}
 use Rattle.model_types.specs.declared.records.Case.{Case}

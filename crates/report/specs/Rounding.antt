@@ -11,10 +11,10 @@ pub record IsScale (n m : ℤ) : Type 0 where
   pub small : n ≤ℤ pos (10 ^ 9)
   pub positive : pos 0 <ℤ m
 
--- the numbers between two bounds
-abbrev pub between : Bounds → Ends
-between b = record { lo = b.lo; hi = b.hi }
+-- the numbers ends_of_pair two bounds
+abbrev pub ends_of_pair : Bounds → Ends
+ends_of_pair b = record { lo = b.lo; hi = b.hi }
 
 -- a number within its bounds is, in a unit that is m / n of theirs, within the printed pair
 abbrev pub PrintedHolds : Type 0
-PrintedHolds = (n m : ℤ) → pos 0 ≤ℤ n → pos 0 <ℤ m → (b : Bounds) (x : Fraction) → Within (between b) x → Within (between (printed n m b)) (scaled x n m)
+PrintedHolds = (n m : ℤ) → pos 0 ≤ℤ n → pos 0 <ℤ m → (b : Bounds) (x : Fraction) → Within (ends_of_pair b) x → Within (ends_of_pair (printed n m b)) (scaled x n m)

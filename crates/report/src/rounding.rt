@@ -1,5 +1,5 @@
 ghost use Rattle.std.specs.Prelude.{◌≡◌, ◌*ℤ◌};
-ghost use Rattle.flex_num.specs.Division.{ceil_of, floor_of, nearest_of};
+ghost use Rattle.int_laws.specs.Division.{ceil_of, floor_of, nearest_of};
 ghost use Rattle.report.specs.Fits.{IsModest};
 ghost use Rattle.report.specs.Rounding.{IsScale, PrintedHolds};
 

@@ -9,7 +9,7 @@ use Rattle.factor_data.proofs.ColumnLemmas.{term-here, term-elsewhere}
 use Rattle.flex_num.specs.declared.guarded.GuardedSum.{GuardedSum}
 use Rattle.solve.specs.Substitution.{at}
 use Rattle.int_laws.specs.Matrices.{absolute}
-use Rattle.solve.specs.Numerators.{past, taken_size, TakesColumn, IsBeyond}
+use Rattle.solve.specs.Numerators.{past, taken_size, TakesColumn, IsNumeratorBroad}
 use Rattle.flex_num.specs.Guarded.{zero_sum, value_at, size_at}
 
 past-here : (j row : ℕ) (z : ℤ) → j < row → past j row z ≡ z
@@ -75,7 +75,7 @@ taken_size-le rows values unknown m n i below =
 pub scatter-beyond : (old left : List GuardedSum) (rows : List ℕ) (values : List ℤ) (j : ℕ) (unknown : ℤ) (v : ℕ) →
     v < length rows → slice_index rows v < length left → TakesColumn old left rows values j unknown v →
     pos (2 ^ 126) ≤ℤ (pos (size_at left (slice_index rows v)) +ℤ past j (slice_index rows v) (absolute (at values v *ℤ unknown))) →
-    IsBeyond old rows values j unknown
+    IsNumeratorBroad old rows values j unknown
 scatter-beyond old left rows values j unknown v listed inside before broad =
     let row = slice_index rows v in
     let side : (j < row) ⊎ (row ≤ j) = search arith in

@@ -12,7 +12,7 @@ use Rattle.lists.proofs.UniqueLemmas.{decide_contains}
 use Rattle.lists.proofs.PlaceLemmas.{spread-rising}
 use Rattle.solve.specs.Substitution.{at}
 use Rattle.int_laws.specs.Matrices.{absolute}
-use Rattle.solve.specs.Numerators.{past, taken, taken_size, gathered, gathered_size}
+use Rattle.solve.specs.Numerators.{past, taken_size, gathered, gathered_size, taken_part}
 use Rattle.solve.proofs.ColumnsTaken.{past-none}
 
 -- the place of a row that is listed
@@ -31,7 +31,7 @@ part-weighted weight rows values n i none spread = elim (decide_contains rows i)
 
 -- what a whole column takes is its entry times the unknown
 pub taken-whole : (rows : List ℕ) (values : List ℤ) (n i : ℕ) (unknown : ℤ) → IsSpread rows n →
-    taken rows values unknown (length rows) i ≡ column_entry rows values i *ℤ unknown
+    taken_part rows values unknown (length rows) i ≡ column_entry rows values i *ℤ unknown
 taken-whole rows values n i unknown spread = part-weighted (λ z. z *ℤ unknown) rows values n i (zero-mul unknown) spread
 
 pub taken_size-whole : (rows : List ℕ) (values : List ℤ) (n i : ℕ) (unknown : ℤ) → IsSpread rows n →

@@ -5,7 +5,7 @@ use Rattle.std.proofs.Math.Nat.{pow-suc, mul-le-mul_left, mul-le-mul_right, mul_
 use Rattle.std.proofs.lemmas.Bool.{cases_lt}
 use Rattle.std.proofs.lemmas.Int.{unsigned_abs-mul}
 use Rattle.solve.specs.Substitution.{at}
-use Rattle.solve.specs.Refinement.{HasRoom, HasNoRoom}
+use Rattle.solve.specs.Refinement.{HasNoRoom, HasDigits}
 
 doubled : (digits : ℕ) → 2 ^ suc digits ≡ 2 ^ digits * 2
 doubled digits = pow-suc 2 digits
@@ -13,7 +13,7 @@ doubled digits = pow-suc 2 digits
 -- no more digits have room once doubling passes the limit
 pub scale-greatest : (r : List ℤ) (most scaled digits d : ℕ) →
     (most ≡ 0) ⊎ ((i : ℕ) × (i < length r) × (unsigned_abs (at r i) ≡ most)) →
-    scaled ≡ most * 2 ^ digits → 2 ^ 105 ≤ scaled → HasRoom r d → d ≤ digits
+    scaled ≡ most * 2 ^ digits → 2 ^ 105 ≤ scaled → HasDigits r d → d ≤ digits
 scale-greatest r most scaled digits d reached is large room = elim (cases_lt digits d) [
   | inl more ↦ absurd (elim reached [
     | inl none ↦ omega (arith, is, ap (λ (n : ℕ). n * 2 ^ digits) none, large)
@@ -28,7 +28,7 @@ scale-greatest r most scaled digits d reached is large room = elim (cases_lt dig
 
 -- all numbers have room where the largest has
 pub room-most : (r : List ℤ) (most scaled digits : ℕ) → ((i : ℕ) → i < length r → unsigned_abs (at r i) ≤ most) →
-    scaled ≡ most * 2 ^ digits → scaled < 2 ^ 106 → HasRoom r digits
+    scaled ≡ most * 2 ^ digits → scaled < 2 ^ 106 → HasDigits r digits
 room-most r most scaled digits bound is small i inside =
     let product = mul-le-mul_right (2 ^ digits) (bound i inside) in
     omega (arith, is, small, product)

@@ -5,13 +5,13 @@ use Rattle.std.proofs.Math.ListN.{length-set}
 use Rattle.int_laws.specs.Sums.{sum_below}
 use Rattle.int_laws.proofs.Sums.{int_sums}
 use Rattle.int_laws.proofs.SumLaws.{sum_below-same}
-use Rattle.flex_num.specs.Division.{nearest_of}
+use Rattle.int_laws.specs.Division.{nearest_of}
 use Rattle.lists.specs.Order.{IsSpread}
 use Rattle.factor_data.specs.Columns.{column_entry}
 use Rattle.flex_num.specs.declared.guarded.GuardedSum.{GuardedSum}
 use Rattle.solve.specs.Substitution.{at, Numerator, IsQuotient, forward_numerator, forward_size, IsForwardBelow, IsForward, ForwardBreaks, backward_numerator, IsBackwardFrom}
 use Rattle.int_laws.specs.Matrices.{Entries, Vector, absolute}
-use Rattle.solve.specs.Numerators.{taken, taken_size, past, TakesColumn, IsBeyond}
+use Rattle.solve.specs.Numerators.{taken_size, past, TakesColumn, IsNumeratorBroad, taken_part}
 use Rattle.flex_num.specs.Guarded.{zero_sum, value_at, size_at}
 use Rattle.solve.proofs.ColumnsTaken.{past-before}
 use Rattle.solve.proofs.Entries.{taken-whole, taken_size-whole}
@@ -80,7 +80,7 @@ forward-step n g r left next y j x rows values inside state is spread column tak
           let was = state.value i (omega arith) below in
           let same = sum-set j j (λ k z. g i k *ℤ z) y x (omega arith) in
           let now = takes.value i (omega arith) (omega (arith, state.one_numerator_each)) in
-          let part : taken rows values x (length rows) i ≡ g i j *ℤ at (slice_set y j x) j =
+          let part : taken_part rows values x (length rows) i ≡ g i j *ℤ at (slice_set y j x) j =
           taken-whole rows values n i x spread ∙ ap (λ (z : ℤ). z *ℤ x) (sym (column i)) ∙ ap (λ (z : ℤ). g i j *ℤ z) (sym (at-set_here y j x (omega (arith, state.one_unknown_each)))) in
           rw (add-one j) (omega (arith, int_sums, was, same, now, part));
       size = λ i after below.
@@ -95,7 +95,7 @@ forward-step n g r left next y j x rows values inside state is spread column tak
 -- a column that would make a numerator too broad
 pub forward-breaks : (n : ℕ) (g : Entries) (r : Vector) (left : List GuardedSum) (y : List ℤ) (j : ℕ) (x : ℤ) (rows : List ℕ) (values : List ℤ) → j < n →
     IsForwardState n g r left y j → x ≡ nearest_of (value_at left j) (g j j) → IsSpread rows n → ((i : ℕ) → g i j ≡ column_entry rows values i) →
-    IsBeyond left rows values j x → ForwardBreaks n g r
+    IsNumeratorBroad left rows values j x → ForwardBreaks n g r
 forward-breaks n g r left y j x rows values inside state is spread column beyond =
     let i = beyond.row in
     let below : i < n = omega (arith, beyond.inside, state.one_numerator_each) in

@@ -7,13 +7,13 @@ use Rattle.flex_num.specs.Guarded.{value_at, size_at}
 use Rattle.solve.specs.Substitution.{at}
 use Rattle.int_laws.specs.Matrices.{absolute}
 
--- nothing is taken yet: each size is that of the value alone
-abbrev pub IsWhole : List GuardedSum → Type 0
-IsWhole xs = (i : ℕ) → i < length xs → pos (size_at xs i) ≡ absolute (value_at xs i)
+-- nothing is taken_part yet: each size is that of the value alone
+abbrev pub IsUntaken : List GuardedSum → Type 0
+IsUntaken xs = (i : ℕ) → i < length xs → pos (size_at xs i) ≡ absolute (value_at xs i)
 
 -- what the first places of a column, times an unknown, are in row i, and their size
-abbrev pub taken : List ℕ → List ℤ → ℤ → ℕ → ℕ → ℤ
-taken rows values unknown places i = column_part (λ z. z *ℤ unknown) places rows values i
+abbrev pub taken_part : List ℕ → List ℤ → ℤ → ℕ → ℕ → ℤ
+taken_part rows values unknown places i = column_part (λ z. z *ℤ unknown) places rows values i
 
 abbrev pub taken_size : List ℕ → List ℤ → ℤ → ℕ → ℕ → ℤ
 taken_size rows values unknown places i = column_part (λ z. absolute (z *ℤ unknown)) places rows values i
@@ -21,11 +21,11 @@ taken_size rows values unknown places i = column_part (λ z. absolute (z *ℤ un
 -- each numerator past j has lost the column's entry times the unknown
 pub record TakesColumn (old new : List GuardedSum) (rows : List ℕ) (values : List ℤ) (j : ℕ) (unknown : ℤ) (places : ℕ) : Type 0 where
   pub length_kept : length new ≡ length old
-  pub value : (i : ℕ) → j < i → i < length old → value_at new i ≡ value_at old i -ℤ taken rows values unknown places i
+  pub value : (i : ℕ) → j < i → i < length old → value_at new i ≡ value_at old i -ℤ taken_part rows values unknown places i
   pub size : (i : ℕ) → j < i → i < length old → pos (size_at new i) ≡ pos (size_at old i) +ℤ taken_size rows values unknown places i
 
 -- a numerator past j would become too broad
-pub record IsBeyond (old : List GuardedSum) (rows : List ℕ) (values : List ℤ) (j : ℕ) (unknown : ℤ) : Type 0 where
+pub record IsNumeratorBroad (old : List GuardedSum) (rows : List ℕ) (values : List ℤ) (j : ℕ) (unknown : ℤ) : Type 0 where
   pub row : ℕ
   pub past : j < row
   pub inside : row < length old

@@ -4,15 +4,11 @@
 use Rattle.std.specs.Prelude.{ℕ, zero, suc, ◌-◌, ◌*◌, ◌^◌, ◌<◌, ◌≤◌, ◌≡◌, List, length, replicate, ℤ, pos, ◌+ℤ◌, ◌*ℤ◌, unsigned_abs, Ok, IsErr}
 use Rattle.flex_interval.specs.Ends.{Ends}
 use Rattle.flex_interval.specs.Operations.{middle_of}
-use Rattle.member_set.specs.declared.members.Law.{Law}
-use Rattle.member_set.specs.declared.members.Built.{Built}
-use Rattle.member_set.specs.Members.{row_count, IsModerate}
+use Rattle.member_set.specs.Members.{row_count, IsModerate, System}
 use Rattle.member_set.specs.Interval.{Outcome, residual_of}
-use Rattle.factor_data.specs.Columns.{entry}
-use Rattle.factor_data.specs.Columns.{ColumnLists}
 use Rattle.lists.specs.Rows.{freedom_at}
 use Rattle.solve.specs.Substitution.{at, IsForward, ForwardBreaks, IsBackward, BackwardBreaks}
-use Rattle.int_laws.specs.Matrices.{Vector}
+use Rattle.int_laws.specs.Matrices.{Vector, Entries}
 
 -- m is the middle of the interval that there is
 pub record IsMiddle (r : Outcome) (m : ℤ) : Type 0 where
@@ -32,14 +28,14 @@ pub record HasNoResidual (size : ℕ) (residual : ℕ → Outcome) : Type 0 wher
   pub none : IsErr (residual row)
 
 -- 2^digits times each number is below 2^106 in size
-abbrev pub HasRoom : List ℤ → ℕ → Type 0
-HasRoom r digits = (i : ℕ) → i < length r → unsigned_abs (at r i) * 2 ^ digits < 2 ^ 106
+abbrev pub HasDigits : List ℤ → ℕ → Type 0
+HasDigits r digits = (i : ℕ) → i < length r → unsigned_abs (at r i) * 2 ^ digits < 2 ^ 106
 
 -- the most digits, of at most 56, for which there is room
-pub record IsScale (r : List ℤ) (digits : ℕ) : Type 0 where
+pub record IsScaling (r : List ℤ) (digits : ℕ) : Type 0 where
   pub at_most : digits ≤ 56
-  pub room : HasRoom r digits
-  pub greatest : (d : ℕ) → d ≤ 56 → HasRoom r d → d ≤ digits
+  pub room : HasDigits r digits
+  pub greatest : (d : ℕ) → d ≤ 56 → HasDigits r d → d ≤ digits
 
 -- a number is so large that there is no room at all
 pub record HasNoRoom (r : List ℤ) : Type 0 where
@@ -68,31 +64,31 @@ pub record MovesTooFar (size : ℕ) (order : List ℕ) (u z : List ℤ) : Type 0
 
 -- ---- a turn
 
--- what is to be solved: a structure with its laws and loads, and the factor of its middle stiffness matrix
+-- what is to be solved: a system, and the entries of the factor of its middle stiffness matrix, whose rows and columns stand
+-- in the order of elimination
 pub record Problem : Type 0 where
-  pub structure : Built
-  pub laws : List Law
-  pub loads : List Ends
-  pub factor : ColumnLists
+  pub system : System
+  pub order : List ℕ
+  pub factor : Entries
 
-abbrev pub problem : Built → List Law → List Ends → ColumnLists → Problem
-problem structure laws loads factor = record { structure = structure; laws = laws; loads = loads; factor = factor }
+abbrev pub problem : System → List ℕ → Entries → Problem
+problem system order factor = record { system = system; order = order; factor = factor }
 
 abbrev pub size_of : Problem → ℕ
-size_of p = row_count p.structure
+size_of p = row_count p.system.structure
 
-abbrev pub residual_at : Problem → List ℤ → ℕ → Outcome
-residual_at p u row = residual_of p.structure p.laws p.loads u row
+abbrev pub problem_residual : Problem → List ℤ → ℕ → Outcome
+problem_residual p u row = residual_of p.system u row
 
 -- the steps of a turn from displacements u: the middles of the residuals, their scale, and the two substitutions
 abbrev pub HasMiddles : Problem → List ℤ → List ℤ → Type 0
-HasMiddles p u r = AreMiddles (size_of p) (residual_at p u) r
+HasMiddles p u r = AreMiddles (size_of p) (problem_residual p u) r
 
 abbrev pub SolvesForward : Problem → List ℤ → ℕ → List ℤ → Type 0
-SolvesForward p r digits y = IsForward (size_of p) (entry p.factor) (forward_side p.factor.order r digits) y
+SolvesForward p r digits y = IsForward (size_of p) p.factor (forward_side p.order r digits) y
 
 abbrev pub SolvesBackward : Problem → ℕ → List ℤ → List ℤ → Type 0
-SolvesBackward p digits y z = IsBackward (size_of p) (entry p.factor) (backward_side y digits) z
+SolvesBackward p digits y z = IsBackward (size_of p) p.factor (backward_side y digits) z
 
 -- one turn takes u to v
 pub record IsTurn (p : Problem) (u v : List ℤ) : Type 0 where
@@ -101,22 +97,22 @@ pub record IsTurn (p : Problem) (u v : List ℤ) : Type 0 where
   pub y : List ℤ
   pub z : List ℤ
   pub middles : HasMiddles p u r
-  pub scale : IsScale r digits
+  pub scale : IsScaling r digits
   pub forward : SolvesForward p r digits y
   pub backward : SolvesBackward p digits y z
-  pub moved : IsMoved (size_of p) p.factor.order u z v
+  pub moved : IsMoved (size_of p) p.order u z v
   pub moderate : IsModerate v
 
 -- a turn from u is too wide: its first step that can't be done
 pub data TurnBreaks (p : Problem) (u : List ℤ) : Type 0 where
-  no_residual : HasNoResidual (size_of p) (residual_at p u) → TurnBreaks p u
+  no_residual : HasNoResidual (size_of p) (problem_residual p u) → TurnBreaks p u
   no_room : (r : List ℤ) → HasMiddles p u r → HasNoRoom r → TurnBreaks p u
-  forward_broad : (r : List ℤ) (digits : ℕ) → HasMiddles p u r → IsScale r digits →
-      ForwardBreaks (size_of p) (entry p.factor) (forward_side p.factor.order r digits) → TurnBreaks p u
-  backward_broad : (r : List ℤ) (digits : ℕ) (y : List ℤ) → HasMiddles p u r → IsScale r digits → SolvesForward p r digits y →
-      BackwardBreaks (size_of p) (entry p.factor) (backward_side y digits) → TurnBreaks p u
-  too_far : (r : List ℤ) (digits : ℕ) (y z : List ℤ) → HasMiddles p u r → IsScale r digits → SolvesForward p r digits y →
-      SolvesBackward p digits y z → MovesTooFar (size_of p) p.factor.order u z → TurnBreaks p u
+  forward_broad : (r : List ℤ) (digits : ℕ) → HasMiddles p u r → IsScaling r digits →
+      ForwardBreaks (size_of p) p.factor (forward_side p.order r digits) → TurnBreaks p u
+  backward_broad : (r : List ℤ) (digits : ℕ) (y : List ℤ) → HasMiddles p u r → IsScaling r digits → SolvesForward p r digits y →
+      BackwardBreaks (size_of p) p.factor (backward_side y digits) → TurnBreaks p u
+  too_far : (r : List ℤ) (digits : ℕ) (y z : List ℤ) → HasMiddles p u r → IsScaling r digits → SolvesForward p r digits y →
+      SolvesBackward p digits y z → MovesTooFar (size_of p) p.order u z → TurnBreaks p u
 
 -- ---- the turns
 

@@ -3,7 +3,7 @@
 use Rattle.std.specs.Prelude.{ℕ, ◌+◌, ◌^◌, ◌<◌, ◌≤◌, ◌≡◌, nat_lt, List, length, slice_index_or, if◌then◌else◌, ℤ, pos, ◌-ℤ◌, ◌+ℤ◌, ◌*ℤ◌, ◌<ℤ◌, ◌≤ℤ◌}
 use Rattle.int_laws.specs.Sums.{sum_below}
 use Rattle.int_laws.specs.Matrices.{Vector, Entries, absolute}
-use Rattle.flex_num.specs.Division.{nearest_of}
+use Rattle.int_laws.specs.Division.{nearest_of}
 
 -- the number at a position of a list
 abbrev pub at : List ℤ → ℕ → ℤ

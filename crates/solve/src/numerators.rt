@@ -1,6 +1,6 @@
 ghost use Rattle.std.specs.Prelude.{◌≡◌, ◌+◌, ◌^◌, ◌<◌, ◌≤ℤ◌, ◌<ℤ◌, ℤ, ◌+ℤ◌, ◌-ℤ◌, ◌*ℤ◌, pos, unsigned_abs, OnErr, IfOk};
 ghost use Rattle.int_laws.specs.Matrices.{absolute};
-ghost use Rattle.flex_num.specs.Division.{nearest_of};
+ghost use Rattle.int_laws.specs.Division.{nearest_of};
 ghost use Rattle.solve.specs.Numerators.{past};
 
 use flex_interval::Wide;

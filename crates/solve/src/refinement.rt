@@ -1,13 +1,13 @@
 ghost use Rattle.std.specs.Prelude.{◌≡◌, ℕ, ◌+◌, ◌*◌, ◌/◌, ◌^◌, ◌<◌, ◌≤◌, ◌⊎◌, [], length, replicate, unsigned_abs, ℤ, pos, ◌+ℤ◌, ◌<ℤ◌, OnOk, OnErr, IfOk, Err};
-ghost use Rattle.member_set.specs.Members.{IsBuilt, FitsBuilt, IsModerate, row_count, node_count};
+ghost use Rattle.member_set.specs.Members.{IsSystem, IsModerate, row_count, node_count, system};
 ghost use Rattle.member_set.specs.Interval.{residual_of};
 ghost use Rattle.factor_data.specs.Columns.{entry};
 ghost use Rattle.lists.specs.Rows.{freedom_at};
 ghost use Rattle.lists.specs.Order.{IsOrder};
 ghost use Rattle.flex_num.specs.Guarded.{value_at};
-ghost use Rattle.solve.specs.Numerators.{IsWhole};
+ghost use Rattle.solve.specs.Numerators.{IsUntaken};
 ghost use Rattle.solve.specs.Substitution.{at};
-ghost use Rattle.solve.specs.Refinement.{AreMiddles, HasNoResidual, HasRoom, IsScale, HasNoRoom, forward_side, IsMoved, MovesTooFar, problem, IsTurn, TurnBreaks, LeadTo, IsCandidate, IsTooWide};
+ghost use Rattle.solve.specs.Refinement.{AreMiddles, HasNoResidual, HasNoRoom, forward_side, IsMoved, MovesTooFar, problem, IsTurn, TurnBreaks, LeadTo, IsCandidate, IsTooWide, IsScaling, HasDigits};
 
 use crate::fault::SolveFault;
 use crate::numerators::scaled;
@@ -43,14 +43,13 @@ pub fn candidate(
     loads: &[Iv],
     f: &Factor,
 ) -> Result<Vec<i128>, SolveFault>
-    requires built { IsBuilt b.now }
-    requires lists { FitsBuilt b.now laws.now loads.now }
+    requires system { IsSystem (system b.now laws.now loads.now) }
     requires no_one_way { b.now.unilateral ≡ [] }
     requires no_states { closed.now ≡ [] }
     requires factor { length f.now.order ≡ node_count b.now }
     requires diagonal { (j : ℕ) → j < row_count b.now → pos 0 <ℤ entry f.now j j }
-    ensures ok { IfOk result (λ u. IsCandidate (problem b.now laws.now loads.now f.now) u.items) }
-    ensures wide { result ≡ Err SolveFault.Wide → IsTooWide (problem b.now laws.now loads.now f.now) }
+    ensures ok { IfOk result (λ u. IsCandidate (problem (system b.now laws.now loads.now) f.now.order (entry f.now)) u.items) }
+    ensures wide { result ≡ Err SolveFault.Wide → IsTooWide (problem (system b.now laws.now loads.now) f.now.order (entry f.now)) }
 {
     let rows = loads.len();
     let mut u = vec![in alloc; 0; rows]?;
@@ -72,16 +71,15 @@ fn refine(
     x: &mut [i128],
     left: &mut [GuardedSum],
 ) -> Result<(), Wide>
-    requires built { IsBuilt b.now }
-    requires lists { FitsBuilt b.now laws.now loads.now }
+    requires system { IsSystem (system b.now laws.now loads.now) }
     requires factor { length f.now.order ≡ node_count b.now }
     requires diagonal { (j : ℕ) → j < row_count b.now → pos 0 <ℤ entry f.now j j }
     requires at_rest { u.old ≡ replicate (row_count b.now) (pos 0) }
     requires one_force_each { length forces.old ≡ length b.now.members }
     requires one_unknown_each { length x.old ≡ row_count b.now }
     requires one_numerator_each { length left.old ≡ row_count b.now }
-    ensures candidate { OnOk result (IsCandidate (problem b.now laws.now loads.now f.now) u.new) }
-    ensures wide { OnErr result (IsTooWide (problem b.now laws.now loads.now f.now)) }
+    ensures candidate { OnOk result (IsCandidate (problem (system b.now laws.now loads.now) f.now.order (entry f.now)) u.new) }
+    ensures wide { OnErr result (IsTooWide (problem (system b.now laws.now loads.now) f.now.order (entry f.now))) }
 {
     for _turn in 0..TURNS {
         turn(b, laws, loads, f, u, forces, x, left)?;
@@ -100,8 +98,7 @@ fn turn(
     x: &mut [i128],
     left: &mut [GuardedSum],
 ) -> Result<(), Wide>
-    requires built { IsBuilt b.now }
-    requires lists { FitsBuilt b.now laws.now loads.now }
+    requires system { IsSystem (system b.now laws.now loads.now) }
     requires factor { length f.now.order ≡ node_count b.now }
     requires diagonal { (j : ℕ) → j < row_count b.now → pos 0 <ℤ entry f.now j j }
     requires one_displacement_each { length u.old ≡ row_count b.now }
@@ -109,8 +106,8 @@ fn turn(
     requires one_force_each { length forces.old ≡ length b.now.members }
     requires one_unknown_each { length x.old ≡ row_count b.now }
     requires one_numerator_each { length left.old ≡ row_count b.now }
-    ensures turned { OnOk result (IsTurn (problem b.now laws.now loads.now f.now) u.old u.new) }
-    ensures breaks { OnErr result (TurnBreaks (problem b.now laws.now loads.now f.now) u.old) }
+    ensures turned { OnOk result (IsTurn (problem (system b.now laws.now loads.now) f.now.order (entry f.now)) u.old u.new) }
+    ensures breaks { OnErr result (TurnBreaks (problem (system b.now laws.now loads.now) f.now.order (entry f.now)) u.old) }
 {
     middles(b, laws, loads, u, forces, x)?;
     let digits = scale_digits(x)?;
@@ -129,14 +126,13 @@ fn middles(
     forces: &mut [Iv],
     r: &mut [i128],
 ) -> Result<(), Wide>
-    requires built { IsBuilt b.now }
-    requires lists { FitsBuilt b.now laws.now loads.now }
+    requires system { IsSystem (system b.now laws.now loads.now) }
     requires one_displacement_each { length u.now ≡ row_count b.now }
     requires moderate { IsModerate u.now }
     requires one_force_each { length forces.old ≡ length b.now.members }
     requires one_middle_each { length r.old ≡ row_count b.now }
-    ensures middles { OnOk result (AreMiddles (row_count b.now) (residual_of b.now laws.now loads.now u.now) r.new) }
-    ensures none { OnErr result (HasNoResidual (row_count b.now) (residual_of b.now laws.now loads.now u.now)) }
+    ensures middles { OnOk result (AreMiddles (row_count b.now) (residual_of (system b.now laws.now loads.now) u.now) r.new) }
+    ensures none { OnErr result (HasNoResidual (row_count b.now) (residual_of (system b.now laws.now loads.now) u.now)) }
 {
     member_forces(b, laws, u, forces)?;
     for row in 0..r.len() {
@@ -147,7 +143,7 @@ fn middles(
 
 /// By how many digits numbers are scaled: as many as there is room for.
 fn scale_digits(r: &[i128]) -> Result<u32, Wide>
-    ensures scale { IfOk result (λ digits. IsScale r.now digits) }
+    ensures scale { IfOk result (λ digits. IsScaling r.now digits) }
     ensures no_room { OnErr result (HasNoRoom r.now) }
 {
     let mut scaled = largest(r);
@@ -188,9 +184,9 @@ fn scale_sides(order: &[u32], r: &[i128], digits: u32, left: &mut [GuardedSum])
     requires six_rows_each { length r.now ≡ 6 * length order.now }
     requires one_each { length left.old ≡ length r.now }
     requires at_most { digits ≤ 56 }
-    requires room { HasRoom r.now digits }
+    requires room { HasDigits r.now digits }
     ensures sides { (j : ℕ) → j < length r.now → value_at left.new j ≡ forward_side order.now r.now digits j }
-    ensures whole { IsWhole left.new }
+    ensures whole { IsUntaken left.new }
 {
     let scale = power_of_two(digits);
     for j in 0..r.len() {

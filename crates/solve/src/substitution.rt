@@ -1,7 +1,7 @@
 ghost use Rattle.std.specs.Prelude.{◌≡◌, ℕ, ◌+◌, ◌*◌, ◌^◌, ◌<◌, ◌≤◌, length, All, ℤ, pos, ◌-ℤ◌, ◌+ℤ◌, ◌*ℤ◌, ◌<ℤ◌, ◌≤ℤ◌, OnOk, OnErr, IfOk, IfErr, slice_index};
 ghost use Rattle.factor_data.specs.Columns.{entry, IsFactor};
 ghost use Rattle.flex_num.specs.Guarded.{value_at};
-ghost use Rattle.solve.specs.Numerators.{IsWhole, TakesColumn, IsBeyond, gathered, gathered_size};
+ghost use Rattle.solve.specs.Numerators.{TakesColumn, gathered, gathered_size, IsNumeratorBroad, IsUntaken};
 ghost use Rattle.solve.specs.Substitution.{at, IsForward, ForwardBreaks, IsBackward, BackwardBreaks};
 ghost use Rattle.int_laws.specs.Matrices.{absolute};
 
@@ -16,7 +16,7 @@ pub fn forward(f: &Factor, left: &mut [GuardedSum], y: &mut [i128]) -> Result<()
     requires factor { 6 * length f.now.order ≡ length y.old }
     requires diagonal { (j : ℕ) → j < length y.old → pos 0 <ℤ entry f.now j j }
     requires one_numerator_each { length left.old ≡ length y.old }
-    requires whole { IsWhole left.old }
+    requires whole { IsUntaken left.old }
     ensures solved { OnOk result (IsForward (length y.old) (entry f.now) (value_at left.old) y.new) }
     ensures broad { OnErr result (ForwardBreaks (length y.old) (entry f.now) (value_at left.old)) }
 {
@@ -41,7 +41,7 @@ fn scatter(
     requires aligned { length values.now ≡ length rows.now }
     requires in_range { All (λ row. row < length left.old) rows.now }
     ensures taken { OnOk result (TakesColumn left.old left.new rows.now values.now j unknown (length rows.now)) }
-    ensures beyond { OnErr result (IsBeyond left.old rows.now values.now j unknown) }
+    ensures beyond { OnErr result (IsNumeratorBroad left.old rows.now values.now j unknown) }
 {
     for v in 0..rows.len() {
         let row = rows[v] as usize;

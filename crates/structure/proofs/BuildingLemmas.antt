@@ -5,7 +5,7 @@ use Rattle.std.proofs.lemmas.List.Elements.{All-from_recursion, All-nil, All-app
 use Rattle.std.specs.List.{flat_map}
 use Rattle.member_set.specs.declared.members.Member.{Member}
 use Rattle.member_set.specs.declared.members.Built.{Built}
-use Rattle.member_set.specs.Members.{no_member}
+use Rattle.member_set.specs.Members.{IsStiff, no_member}
 use Rattle.model_types.specs.Lists.{Lists}
 use Rattle.model_types.specs.Ranges.{IsStiffness, KindInForm}
 use Rattle.model_types.specs.declared.records.Record.TheVariants as record_of
@@ -99,5 +99,5 @@ IsStructureOf-from m b model are count lists linear no_stations =
       no_stations = no_stations;
     }
 
-pub stiff : (m : Lists) (members : List Member) → AreMembers m members → (k : ℕ) → k < length members → (pos 1 ≤ℤ (get_or members k no_member).kappa.lo) × ((get_or members k no_member).kappa.hi <ℤ pos (2 ^ 61))
-stiff m members are k inside = ((are.sound k no_member inside).low, (are.sound k no_member inside).high)
+pub stiff : (m : Lists) (members : List Member) → AreMembers m members → (k : ℕ) → k < length members → IsStiff (get_or members k no_member).kappa
+stiff m members are k inside = record { at_least = (are.sound k no_member inside).low; below = (are.sound k no_member inside).high }

@@ -1,5 +1,5 @@
 -- The members of a model's elements.
-use Rattle.std.specs.Prelude.{ℕ, [], pos, List, Result}
+use Rattle.std.specs.Prelude.{ℕ, ◌≡◌, [], pos, List, length, Result, Ok}
 use Rattle.std.specs.List.{slice_index_or}
 use Rattle.flex_interval.specs.declared.fault.Wide.{Wide}
 use Rattle.member_set.specs.declared.members.Member.{Member}
@@ -61,3 +61,7 @@ member_count Straight = 8
 -- its members, unless they leave their limits
 abbrev pub members_of : Lists → Element → Result (List Member) Wide
 members_of m e = straight_of e (from_of m e) (to_of m e) (section_of m e) (material_of m (section_of m e))
+
+-- an element has eight members
+abbrev pub ElementsHaveEightMembers : Type 0
+ElementsHaveEightMembers = (m : Lists) (n : ℕ) (members : List Member) → members_of m (element_at m n) ≡ Ok members → length members ≡ 8

@@ -19,18 +19,18 @@ with_element number (Ok members) before = Ok (before ++ members)
 with_element number (Err _) before = Err number
 
 -- the next step on members; the number of a wide element stays
-abbrev pub and_then : Members → (List Member → Members) → Members
-and_then (Ok members) next = next members
-and_then (Err number) next = Err number
+abbrev pub then_members : Members → (List Member → Members) → Members
+then_members (Ok members) next = next members
+then_members (Err number) next = Err number
 
 -- the members of the first n elements, or the number of the first of them that leaves its limits
 abbrev pub element_members : Lists → ℕ → Members
 element_members m zero = Ok []
-element_members m (suc n) = and_then (element_members m n) (with_element n (members_of m (element_at m n)))
+element_members m (suc n) = then_members (element_members m n) (with_element n (members_of m (element_at m n)))
 
 -- the members of a model: of its elements in order, then of its restraints in order
 unfoldable pub model_members : Lists → Members
-model_members m = and_then (element_members m (length m.elements)) (λ members. Ok (members ++ flat_map restraint_members m.restraints))
+model_members m = then_members (element_members m (length m.elements)) (λ members. Ok (members ++ flat_map restraint_members m.restraints))
 
 -- the structure of a model, all of whose members are linear; stations are left out
 pub record IsStructureOf (m : Lists) (b : Built) : Type 0 where
@@ -39,7 +39,3 @@ pub record IsStructureOf (m : Lists) (b : Built) : Type 0 where
   pub built : IsBuilt b
   pub linear : b.unilateral ≡ []
   pub no_stations : b.stations ≡ []
-
--- each stiffness is at least 1 and below 2^61, in units of 2^-20 N/m
-abbrev pub IsStiff : Built → Type 0
-IsStiff b = (k : ℕ) → k < length b.members → (pos 1 ≤ℤ (member_of b k).kappa.lo) × ((member_of b k).kappa.hi <ℤ pos (2 ^ 61))

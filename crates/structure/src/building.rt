@@ -1,7 +1,8 @@
 ghost use Rattle.std.specs.Prelude.{◌≡◌, IfOk, Err, ℕ};
 ghost use Rattle.structure.specs.Anchors.{HasAnchorsAlone};
 ghost use Rattle.structure.specs.Sound.{AreMembers};
-ghost use Rattle.structure.specs.Structure.{IsStructureOf, IsStiff, model_members};
+ghost use Rattle.structure.specs.Structure.{IsStructureOf, model_members};
+ghost use Rattle.member_set.specs.Members.{AreStiff};
 
 use crate::anchors::push_restraints;
 use crate::elements::all_element_members;
@@ -16,7 +17,7 @@ use std::alloc::Global;
 pub fn build(alloc: Global, m: &Model) -> Result<Built, BuildFault>
     requires anchors { HasAnchorsAlone m.now }
     ensures structure { IfOk result (IsStructureOf m.now) }
-    ensures stiff { IfOk result IsStiff }
+    ensures stiff { IfOk result AreStiff }
     ensures wide { (id : ElementId) → result ≡ Err (BuildFault.Wide id) → model_members m.now ≡ Err id.0 }
 {
     let members = model_members(alloc, m)?;

@@ -5,8 +5,10 @@ mod anchors;
 mod building;
 mod elements;
 mod fault;
+mod laws;
 mod touching;
 
 pub use building::build;
 pub use elements::element_members;
 pub use fault::BuildFault;
+pub use laws::elements_have_eight_members;

@@ -1,6 +1,6 @@
 use Rattle.std.proofs.Common.{refl, arith}
 use Rattle.std.proofs.lemmas.Int.{ints}
-use Rattle.flex_num.specs.Division.{floor_of, ceil_of}
+use Rattle.int_laws.specs.Division.{floor_of, ceil_of}
 use Rattle.flex_interval.specs.Fraction.{scaled}
 use Rattle.angle_table.proofs.pi.Goals as goal
 

@@ -1,6 +1,6 @@
 use Rattle.std.proofs.Common.{refl, arith, pos}
 use Rattle.std.proofs.lemmas.Int.{ints}
-use Rattle.flex_num.specs.Division.{floor_of, ceil_of}
+use Rattle.int_laws.specs.Division.{floor_of, ceil_of}
 use Rattle.flex_interval.specs.Operations.{multiple_of, ratio_of}
 use Rattle.angle_table.specs.Pi.{pi_ends}
 use Rattle.angle_table.specs.HalfAngle.{cosine_of, sine_of}

@@ -2,8 +2,7 @@ use Rattle.std.proofs.Common.{◌≡◌, List, ℕ, ◌/◌, ◌<◌, length, ge
 use Rattle.std.proofs.lemmas.Result.{err_from_is_err_and}
 use Rattle.std.proofs.lemmas.List.{get_or_read_under}
 use Rattle.member_set.specs.Members.{nothing, no_member, member_of, members_at, shape_at}
-use Rattle.member_set.proofs.Rows.{nothing_is_zero}
-use Rattle.member_set.proofs.Touching.{resistance_by_node}
+use Rattle.int_laws.proofs.Products.{between_zeros}
 use Rattle.assembly.proofs.Fractions.{nothing_within}
 use Rattle.assembly.proofs.Terms.{entry-next, entry-fault, entry-whole}
 use Rattle.assembly.proofs.entries.entry_sum.Goals as goal
@@ -24,7 +23,7 @@ returns-in_err-total-clause-value c =
     let number = slice_index c.members_at-k-items.result.now c.loop-k.k-index in
     let listed : c.index-as_slice-k.result ≡ get_or c.args.b.now.members number c.index-as_slice-k.result = rw (← c.as_slice.ensures) c.index-as_slice-k.is in
     rw (p.1, p.2)
-    (sym (entry-fault c.args.b.now c.args.row c.args.col c.loop-k.k-index c.members_at-k-items.result.now _
+    (sym (entry-fault c.faults_stay.ensures c.args.b.now c.args.row c.args.col c.loop-k.k-index c.members_at-k-items.result.now _
     c.members_at-k-items.ensures.numbers c.loop-k-test.true
     (entry-next c.args.b.now c.args.row c.args.col c.loop-k.k-index c.members_at-k-items.result.now
     c.index-as_slice-k.result c.loop-k.total _ c.members_at-k-items.ensures.numbers inside listed c.loop-k.invariant.value c.in_err-total.ensures.value)))
@@ -54,8 +53,8 @@ returns-clause-value c =
 
 pub returns-clause-within : goal.returns-clause-within
 returns-clause-within c = λ laws loads r real.
-    let done : c.loop-k.k-index ≡ length (members_at c.args.b.now (c.args.row / 6)) = omega (arith, ap (λ (xs : List ℕ). length xs) c.members_at-k-items.ensures.numbers) in
     let none : (k : ℕ) → k < length c.args.b.now.members → shape_at (member_of c.args.b.now k) c.args.row ≡ nothing → (r.member k).shape c.args.row ≡ pos 0 =
-    λ k inside off. nothing_is_zero _ r.denominator (rw off at ((real.member_within k (rw real.all_members inside)).shape_within c.args.row)) in
-    let sum = resistance_by_node c.args.b.now c.requires.built c.args.row (λ k. (r.member k).shape c.args.row) (λ k. (r.member k).stiffness *ℤ (r.member k).shape c.args.col) (omega arith) none in
-    rw (real.all_members, ← sum, ← done, ← c.members_at-k-items.ensures.numbers) (c.loop-k.invariant.within laws loads r real)
+    λ k inside off. (let w = rw off at ((real.member_within k (rw real.all_members inside)).shape_within c.args.row) in between_zeros ((r.member k).shape c.args.row) r.denominator w.at_least w.at_most) in
+    let sum = c.members_at-k-items.ensures.sums (λ k. (r.member k).shape c.args.row) (λ k. (r.member k).stiffness *ℤ (r.member k).shape c.args.col) none in
+    let counted : c.loop-k.k-index ≡ length c.members_at-k-items.result.now = omega arith in
+    rw (real.all_members, ← sum, ← counted) (c.loop-k.invariant.within laws loads r real)

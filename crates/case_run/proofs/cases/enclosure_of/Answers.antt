@@ -4,18 +4,18 @@ use Rattle.std.proofs.lemmas.Result.{err_from_is_err_and, IfOk-weaker, IfErr-wea
 use Rattle.load_vectors.specs.Loads.{AreLoads}
 use Rattle.case_run.specs.Certified.{no_loads, no_unshifted_factor, no_candidate, no_bounds, by_case}
 use Rattle.case_run.proofs.Faults.{names_also}
-use Rattle.case_run.proofs.Sharing.{fits_structure, same_realisations}
+use Rattle.case_run.proofs.Sharing.{is_system, same_realisations}
 use Rattle.case_run.proofs.cases.enclosure_of.Goals as goal
 
-pub displacements_of-requires-clause-lists : goal.displacements_of-requires-clause-lists
-displacements_of-requires-clause-lists c =
+pub displacements_of-requires-clause-system : goal.displacements_of-requires-clause-system
+displacements_of-requires-clause-system c =
     let loads = subst (AreLoads c.args.m.now c.args.case.0) (sym c.deref-2.ensures.value) c.in_ok-loads.ensures.loads in
-    fits_structure c.args.m.now c.args.case.0 c.args.shared.now.b _ _ c.requires.ready.structure (c.deref.ensures.value ∙ c.requires.ready.laws) loads
+    is_system c.args.m.now c.args.case.0 c.args.shared.now.b _ _ c.requires.ready.structure (c.deref.ensures.value ∙ c.requires.ready.laws) loads
 
-pub bounds_around-requires-clause-lists : goal.bounds_around-requires-clause-lists
-bounds_around-requires-clause-lists c =
+pub bounds_around-requires-clause-system : goal.bounds_around-requires-clause-system
+bounds_around-requires-clause-system c =
     let loads = subst (AreLoads c.args.m.now c.args.case.0) (sym c.deref-4.ensures.value) c.in_ok-loads.ensures.loads in
-    fits_structure c.args.m.now c.args.case.0 c.args.shared.now.b _ _ c.requires.ready.structure (c.deref-3.ensures.value ∙ c.requires.ready.laws) loads
+    is_system c.args.m.now c.args.case.0 c.args.shared.now.b _ _ c.requires.ready.structure (c.deref-3.ensures.value ∙ c.requires.ready.laws) loads
 
 pub returns-in_err-loads-clause-cause : goal.returns-in_err-loads-clause-cause
 returns-in_err-loads-clause-cause c =

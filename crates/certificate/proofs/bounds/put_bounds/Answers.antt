@@ -2,9 +2,9 @@ use Rattle.std.proofs.Common.{rules, arith, ap, refl, get_or, ◌^◌, ◌∙◌
 use Rattle.std.specs.Int.{w128}
 use Rattle.std.proofs.lemmas.Result.{err_from_is_err_and, on_ok_weaker, on_err_weaker}
 use Rattle.flex_interval.specs.Ends.{Ends}
-use Rattle.member_set.specs.Members.{member_of}
+use Rattle.member_set.specs.Members.{member_of, system}
 use Rattle.certificate.specs.Bounds.{force_radius, far, unsteady}
-use Rattle.certificate.specs.Enclosure.{widened, alone, displacement_radius_of, force_radius_of}
+use Rattle.bound_laws.specs.Nearness.{widened, alone, displacement_radius_of, force_radius_of}
 use Rattle.certificate.proofs.BoundsLemmas.{found_is, found_ok, forces_limited, bounds_enclose}
 use Rattle.certificate.proofs.bounds.put_bounds.Goals as goal
 
@@ -27,7 +27,8 @@ returns-clause-encloses c =
     let radius = rw (to_z-of_z c.ranges.lambda, to_z-of_z size_fits) at c.in_ok-displacement_radius.ensures.value in
     on_ok_weaker c.widen_forces.result
     (λ wider r exact real definite balanced.
-    bounds_enclose c.args.b.now c.args.laws.now c.args.loads.now c.args.u.now c.args.lambda size c.in_ok-displacement_radius.field-0
+    bounds_enclose c.equilibria_are_near.ensures.matrix c.equilibria_are_near.ensures.near c.equilibria_are_near.ensures.enclosed c.equilibria_are_near.ensures.radii
+    c.args.b.now c.args.laws.now c.args.loads.now c.args.u.now c.args.lambda size c.in_ok-displacement_radius.field-0
     c.residual_length.new.forces c.widen_displacements.new.displacements c.widen_forces.new.forces r exact
     c.requires.stiff c.requires.positive c.in_ok-size.ensures.not_negative c.requires.one_displacement_each radius around wider
     real (c.in_ok-size.ensures.is_length r real) (c.in_ok-size.ensures.forces_within r real) definite balanced)
@@ -78,7 +79,7 @@ returns-clause-bounds c =
       displacement = λ row inside. around.around row (omega (arith, inside, c.requires.one_displacement_each)) ∙ ap (λ (z : ℤ). widened (alone (get_or u row (pos 0))) z) radius;
       one_force_each = wider.one_each;
       force = λ k inside.
-          wider.wider k inside ∙ ap (λ (f : Ends). widened f (force_radius c.args.b.now c.args.laws.now c.args.loads.now u c.args.lambda k)) (sym (found_is _ _ (forces.value k inside)));
+          wider.wider k inside ∙ ap (λ (f : Ends). widened f (force_radius (system c.args.b.now c.args.laws.now c.args.loads.now) u c.args.lambda k)) (sym (found_is _ _ (forces.value k inside)));
       no_states = refl;
     })
     widened_all

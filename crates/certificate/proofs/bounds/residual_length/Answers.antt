@@ -7,11 +7,10 @@ use Rattle.int_laws.proofs.Sums.{int_sums}
 use Rattle.flex_num.specs.Root.{root_up_of}
 use Rattle.flex_interval.specs.Ends.{Ends}
 use Rattle.flex_interval.specs.Fraction.{Within}
-use Rattle.member_set.specs.Members.{row_count}
+use Rattle.member_set.specs.Members.{row_count, system}
 use Rattle.member_set.specs.Realisation.{displaced, exact_residual}
 use Rattle.member_set.specs.Interval.{Outcome, residual_of}
 use Rattle.certificate.specs.Bounds.{residual_at, no_residual, long}
-use Rattle.certificate.proofs.RoundingLaw.{sizes_give_length}
 use Rattle.certificate.proofs.BoundsLemmas.{found_is, found_ok, square_of, sum_more, sum_too_long}
 use Rattle.certificate.proofs.bounds.residual_length.Goals as goal
 
@@ -25,7 +24,7 @@ pub returns-in_err-residual_from-clause-wide : goal.returns-in_err-residual_from
 returns-in_err-residual_from-clause-wide c =
     let p = err_from_is_err_and c.from_residual-in_err-residual_from.result c.from_residual-in_err-residual_from.ensures.1 in
     let at = c.in_err-residual_from.ensures.at_displacements c.args.laws.now c.args.u.now c.in_ok-member_forces.ensures.forces in
-    let inside : c.loop-row.row < row_count c.args.b.now = omega (arith, c.requires.lists.one_load_each) in
+    let inside : c.loop-row.row < row_count c.args.b.now = omega (arith, c.requires.system.one_load_each) in
     rw p.1 (λ lambda. no_residual c.loop-row.row inside (subst (λ (o : Outcome). IsErr o) at refl))
 
 pub returns-in_err-sum-clause-wide : goal.returns-in_err-sum-clause-wide
@@ -33,9 +32,9 @@ returns-in_err-sum-clause-wide c =
     let p = err_from_is_err_and c.from_residual-in_err-sum.result c.from_residual-in_err-sum.ensures.1 in
     let e = c.in_ok-residual_from.field-0 in
     let at = c.in_ok-residual_from.ensures.at_displacements c.args.laws.now c.args.u.now c.in_ok-member_forces.ensures.forces in
-    let inside : c.loop-row.row < row_count c.args.b.now = omega (arith, c.requires.lists.one_load_each) in
-    let here = found_is (residual_of c.args.b.now c.args.laws.now c.args.loads.now c.args.u.now c.loop-row.row) e (sym at) in
-    let beyond = sum_too_long c.loop-row.row (row_count c.args.b.now) c.loop-row.sum (residual_at c.args.b.now c.args.laws.now c.args.loads.now c.args.u.now) e
+    let inside : c.loop-row.row < row_count c.args.b.now = omega (arith, c.requires.system.one_load_each) in
+    let here = found_is (residual_of (system c.args.b.now c.args.laws.now c.args.loads.now) c.args.u.now c.loop-row.row) e (sym at) in
+    let beyond = sum_too_long c.loop-row.row (row_count c.args.b.now) c.loop-row.sum (residual_at (system c.args.b.now c.args.laws.now c.args.loads.now) c.args.u.now) e
     inside here c.loop-row.invariant.sum c.in_err-sum.ensures.long in
     rw p.1 (λ lambda. long beyond)
 
@@ -43,12 +42,12 @@ pub loop-row-preserved : goal.loop-row-preserved
 loop-row-preserved c =
     let k = c.loop-row.row in
     let e = c.in_ok-residual_from.field-0 in
-    let residual = residual_of c.args.b.now c.args.laws.now c.args.loads.now c.args.u.now in
+    let residual = residual_of (system c.args.b.now c.args.laws.now c.args.loads.now) c.args.u.now in
     let at = c.in_ok-residual_from.ensures.at_displacements c.args.laws.now c.args.u.now c.in_ok-member_forces.ensures.forces in
-    let here = found_is (residual_of c.args.b.now c.args.laws.now c.args.loads.now c.args.u.now k) e (sym at) in
+    let here = found_is (residual_of (system c.args.b.now c.args.laws.now c.args.loads.now) c.args.u.now k) e (sym at) in
     record {
       short = c.in_ok-sum.ensures.short;
-      sum = sum_more k c.loop-row.sum c.in_ok-sum.sum (residual_at c.args.b.now c.args.laws.now c.args.loads.now c.args.u.now) e here c.loop-row.invariant.sum c.in_ok-sum.ensures.value;
+      sum = sum_more k c.loop-row.sum c.in_ok-sum.sum (residual_at (system c.args.b.now c.args.laws.now c.args.loads.now) c.args.u.now) e here c.loop-row.invariant.sum c.in_ok-sum.ensures.value;
       residuals = λ j below.
           let side : (j < k) ⊎ (j ≡ k) = search arith in
           elim side [
@@ -62,7 +61,7 @@ loop-row-preserved c =
             | inl less ↦ c.loop-row.invariant.within r real j less
             | inr same ↦
                 let own : holds k e = c.in_ok-residual_from.ensures.within c.args.laws.now r (displaced r.denominator c.args.u.now) real (c.in_ok-member_forces.ensures.within c.args.loads.now r real) in
-                subst (λ (i : ℕ). holds i (residual_at c.args.b.now c.args.laws.now c.args.loads.now c.args.u.now i)) (sym same) (subst (holds k) (sym here) own)
+                subst (λ (i : ℕ). holds i (residual_at (system c.args.b.now c.args.laws.now c.args.loads.now) c.args.u.now i)) (sym same) (subst (holds k) (sym here) own)
           ];
     }
 
@@ -73,23 +72,23 @@ pub returns-clause-is_length : goal.returns-clause-is_length
 returns-clause-is_length c = λ r real.
     let size = c.root_of_squares.result in
     let fits : FitsSigned w128 c.root_of_squares.result = search rules in
-    let residual = residual_at c.args.b.now c.args.laws.now c.args.loads.now c.args.u.now in
-    let done : c.loop-row.row ≡ r.rows = omega (arith, c.requires.lists.one_load_each, real.all_rows) in
+    let residual = residual_at (system c.args.b.now c.args.laws.now c.args.loads.now) c.args.u.now in
+    let done : c.loop-row.row ≡ r.rows = omega (arith, c.requires.system.one_load_each, real.all_rows) in
     let sum = subst (λ (n : ℕ). pos c.loop-row.sum ≡ sum_below n (λ row. square_of (residual row))) done c.loop-row.invariant.sum in
     let enough = subst (λ (z : ℤ). z ≤ℤ (size *ℤ size)) sum c.root_of_squares.ensures.enough in
     rw (to_z-of_z fits)
-    (sizes_give_length r c.args.u.now residual size (λ row inside. c.loop-row.invariant.within r real row (omega (arith, done, inside))) enough)
+    (c.equilibria_are_near.ensures.length r c.args.u.now residual size (λ row inside. c.loop-row.invariant.within r real row (omega (arith, done, inside))) enough)
 
 pub loop-row-init : goal.loop-row-init
 loop-row-init c = record { short = omega arith; sum = refl; residuals = λ row below. absurd (omega arith); within = λ r real row below. absurd (omega arith) }
 
 pub returns-clause-residuals : goal.returns-clause-residuals
-returns-clause-residuals c = λ row below. c.loop-row.invariant.residuals row (omega (arith, c.requires.lists.one_load_each))
+returns-clause-residuals c = λ row below. c.loop-row.invariant.residuals row (omega (arith, c.requires.system.one_load_each))
 
 pub returns-clause-short : goal.returns-clause-short
 returns-clause-short c =
-    let done : c.loop-row.row ≡ row_count c.args.b.now = omega (arith, c.requires.lists.one_load_each) in
-    let residual = residual_at c.args.b.now c.args.laws.now c.args.loads.now c.args.u.now in
+    let done : c.loop-row.row ≡ row_count c.args.b.now = omega (arith, c.requires.system.one_load_each) in
+    let residual = residual_at (system c.args.b.now c.args.laws.now c.args.loads.now) c.args.u.now in
     let sum = subst (λ (n : ℕ). pos c.loop-row.sum ≡ sum_below n (λ row. square_of (residual row))) done c.loop-row.invariant.sum in
     let short : pos c.loop-row.sum <ℤ pos (2 ^ 126) = omega (arith, int_sums, c.loop-row.invariant.short) in
     subst (λ (z : ℤ). z <ℤ pos (2 ^ 126)) sum short
@@ -97,8 +96,8 @@ returns-clause-short c =
 pub returns-clause-value : goal.returns-clause-value
 returns-clause-value c =
     let fits : FitsSigned w128 c.root_of_squares.result = search rules in
-    let done : c.loop-row.row ≡ row_count c.args.b.now = omega (arith, c.requires.lists.one_load_each) in
-    let residual = residual_at c.args.b.now c.args.laws.now c.args.loads.now c.args.u.now in
+    let done : c.loop-row.row ≡ row_count c.args.b.now = omega (arith, c.requires.system.one_load_each) in
+    let residual = residual_at (system c.args.b.now c.args.laws.now c.args.loads.now) c.args.u.now in
     let sum = subst (λ (n : ℕ). pos c.loop-row.sum ≡ sum_below n (λ row. square_of (residual row))) done c.loop-row.invariant.sum in
     to_z-of_z fits ∙ c.root_of_squares.ensures.value ∙ ap root_up_of sum
 

@@ -3,7 +3,7 @@ use mir.Syntax.{w128}
 use Rattle.std.proofs.Math.ListN.{length-set}
 use Rattle.flex_interval.specs.Ends.{Ends}
 use Rattle.member_set.specs.Members.{nothing}
-use Rattle.certificate.specs.Enclosure.{alone, widened}
+use Rattle.bound_laws.specs.Nearness.{alone, widened}
 use Rattle.certificate.proofs.bounds.widen_displacements.Goals as goal
 
 pub loop-row-preserved : goal.loop-row-preserved

@@ -1,6 +1,6 @@
 use Rattle.std.proofs.Common.{◌≡◌, ℕ, ◌<◌, length, get_or, pos}
 use Rattle.member_set.specs.Members.{nothing}
-use Rattle.certificate.specs.Enclosure.{widened, alone}
+use Rattle.bound_laws.specs.Nearness.{widened, alone}
 use Rattle.certificate.proofs.bounds.widen_displacements.Given as goal
 
 abbrev pub invariant-loop-row : goal.invariant-loop-row

@@ -1,6 +1,6 @@
 use Rattle.std.proofs.Common.{◌≡◌, ℕ, ◌<◌, ◌≤◌, ◌^◌, length, pos, ◌<ℤ◌}
 use Rattle.member_set.specs.Members.{member_of, force_of}
-use Rattle.certificate.specs.Enclosure.{widened, force_radius_of}
+use Rattle.bound_laws.specs.Nearness.{widened, force_radius_of}
 use Rattle.certificate.proofs.bounds.widen_forces.Given as goal
 
 abbrev pub invariant-loop-k : goal.invariant-loop-k

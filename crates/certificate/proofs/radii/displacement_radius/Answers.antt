@@ -1,6 +1,6 @@
 use Rattle.std.proofs.Common.{◌≡◌, rules, FitsSigned, ◌∙◌, to_z, of_z, to_z-of_z}
 use Rattle.std.specs.Int.{w128}
-use Rattle.certificate.specs.Enclosure.{displacement_radius_of}
+use Rattle.bound_laws.specs.Nearness.{displacement_radius_of}
 use Rattle.certificate.proofs.radii.displacement_radius.Goals as goal
 
 -- the radius, before its limit is tested

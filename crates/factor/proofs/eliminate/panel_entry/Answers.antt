@@ -3,7 +3,7 @@ use Rattle.std.specs.Int.{w64}
 use Rattle.std.specs.Int.RustNames.{unsigned_abs}
 use Rattle.std.proofs.lemmas.Int.{ints}
 use Rattle.std.proofs.lemmas.List.Elements.{All-take, All-drop}
-use Rattle.flex_num.specs.Division.{nearest_of}
+use Rattle.int_laws.specs.Division.{nearest_of}
 use Rattle.factor.specs.Panel.{left_in_row}
 use Rattle.factor.proofs.EntryLemmas.{left_in_row-diagonal, taken_is, pivot_read}
 use Rattle.factor.proofs.eliminate.panel_entry.Goals as goal

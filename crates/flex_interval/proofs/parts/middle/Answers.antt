@@ -1,7 +1,7 @@
 use Rattle.std.proofs.Common.{rules, arith, ap, subst, ◌≡◌, ◌∙◌, FitsSigned, to_z, of_z, to_z-of_z, ℤ, pos, ◌+ℤ◌}
 use Rattle.std.specs.Int.{w128}
 use Rattle.std.proofs.lemmas.Int.{ints}
-use Rattle.flex_num.specs.Division.{IsFloor, floor_of}
+use Rattle.int_laws.specs.Division.{IsFloor, floor_of}
 use Rattle.flex_interval.specs.Ends.{Ends}
 use Rattle.flex_interval.proofs.parts.middle.Goals as goal
 

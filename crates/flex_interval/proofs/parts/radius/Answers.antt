@@ -2,7 +2,7 @@ use Rattle.std.proofs.Common.{◌≡◌, ap, sym, arith, rules, FitsSigned, to_z
 use Rattle.std.specs.Int.{w128}
 use Rattle.std.proofs.lemmas.Int.{ints}
 use Rattle.int_laws.proofs.Sums.{int_sums}
-use Rattle.flex_num.specs.Division.{IsFloor}
+use Rattle.int_laws.specs.Division.{IsFloor}
 use Rattle.flex_interval.specs.Ends.{Ends, IsInterval}
 use Rattle.flex_interval.proofs.parts.radius.Goals as goal
 

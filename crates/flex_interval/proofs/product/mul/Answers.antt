@@ -1,7 +1,7 @@
 use Rattle.std.proofs.Common.{◌^◌, pos, ◌*ℤ◌, ◌<ℤ◌, FitsSigned, to_z, of_z, to_z-of_z}
 use Rattle.std.specs.Int.{w128}
-use Rattle.flex_num.specs.Division.{IsFloor, IsCeiling}
-use Rattle.flex_num.proofs.DivisionLemmas.{floor_of-is, ceil_of-is}
+use Rattle.int_laws.specs.Division.{IsFloor, IsCeiling}
+use Rattle.int_laws.proofs.DivisionLemmas.{floor_of-is, ceil_of-is}
 use Rattle.flex_interval.specs.Fraction.{times}
 use Rattle.flex_interval.specs.Operations.{ends}
 use Rattle.flex_interval.proofs.EndsLemmas.{small_fits}

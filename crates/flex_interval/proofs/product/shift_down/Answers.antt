@@ -1,6 +1,6 @@
 use Rattle.std.proofs.Common.{refl, ℕ, negsuc, ◌≡◌, ◌^◌, ℤ, pos, FitsSigned, to_z-of_z}
 use Rattle.std.specs.Int.{w128}
-use Rattle.flex_num.specs.Division.{floor_of}
+use Rattle.int_laws.specs.Division.{floor_of}
 use Rattle.flex_interval.proofs.EndsLemmas.{small_fits}
 use Rattle.flex_interval.proofs.FractionLemmas.{floor_small}
 use lib.Signed.{shr_z}

@@ -1,7 +1,7 @@
 use Rattle.std.proofs.Common.{arith, neg_ℤ, FitsSigned, to_z-of_z}
 use Rattle.std.specs.Int.{w128}
 use Rattle.int_laws.proofs.Sums.{int_sums}
-use Rattle.flex_num.specs.Division.{ceil_of}
+use Rattle.int_laws.specs.Division.{ceil_of}
 use Rattle.flex_interval.proofs.SumLemmas.{zero-sub}
 use Rattle.flex_interval.proofs.EndsLemmas.{small_fits}
 use Rattle.flex_interval.proofs.product.shift_up.Goals as goal

@@ -1,6 +1,6 @@
 use Rattle.std.proofs.Common.{rules, ◌≡◌, ap, FitsSigned, to_z, of_z, to_z-of_z}
 use Rattle.std.specs.Int.{w128}
-use Rattle.flex_num.specs.Division.{floor_of, ceil_of}
+use Rattle.int_laws.specs.Division.{floor_of, ceil_of}
 use Rattle.flex_interval.specs.Ends.{Ends}
 use Rattle.flex_interval.specs.Operations.{ratio_of}
 use Rattle.flex_interval.proofs.EndsLemmas.{small_fits}

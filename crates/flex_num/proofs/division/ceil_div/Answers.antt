@@ -1,7 +1,7 @@
 use Rattle.std.proofs.Common.{rules, ◌≡◌, sym, ◌∙◌, arith, pos, ◌+ℤ◌, ◌<ℤ◌, FitsSigned, to_z, of_z, to_z-of_z}
 use Rattle.std.proofs.lemmas.Int.{ints}
 use Rattle.std.specs.Int.{w128, int_div_euclid, int_rem_euclid}
-use Rattle.flex_num.proofs.DivisionLemmas.{ceil_of-is, ceiling_unique, ceiling_when_exact, ceiling_when_not, next_fits}
+use Rattle.int_laws.proofs.DivisionLemmas.{ceil_of-is, ceiling_unique, ceiling_when_exact, ceiling_when_not, next_fits}
 use Rattle.flex_num.proofs.division.ceil_div.Goals as goal
 
 pub returns-then-rem_euclid-eq0-clause-meaning : goal.returns-then-rem_euclid-eq0-clause-meaning

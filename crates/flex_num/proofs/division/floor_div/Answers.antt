@@ -1,7 +1,7 @@
 use Rattle.std.proofs.Common.{rules, FitsSigned, to_z-of_z}
 use Rattle.std.specs.Int.{w128}
-use Rattle.flex_num.specs.Division.{floor_of}
-use Rattle.flex_num.proofs.DivisionLemmas.{floor_of-is}
+use Rattle.int_laws.specs.Division.{floor_of}
+use Rattle.int_laws.proofs.DivisionLemmas.{floor_of-is}
 use Rattle.flex_num.proofs.division.floor_div.Goals as goal
 
 pub returns-clause-value : goal.returns-clause-value

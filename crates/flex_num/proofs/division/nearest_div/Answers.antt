@@ -1,7 +1,7 @@
 use Rattle.std.proofs.Common.{rules, ◌≡◌, arith, pos, ◌+ℤ◌, ◌-ℤ◌, ◌<ℤ◌, ◌≤ℤ◌, FitsSigned, to_z, of_z, to_z-of_z}
 use Rattle.std.proofs.lemmas.Int.{ints}
 use Rattle.std.specs.Int.{w128, int_div_euclid, int_rem_euclid}
-use Rattle.flex_num.proofs.DivisionLemmas.{nearest_of-is, nearest_unique, nearest_below, nearest_above, next_fits, rest_fits, remainder_positive}
+use Rattle.int_laws.proofs.DivisionLemmas.{nearest_of-is, nearest_unique, nearest_below, nearest_above, next_fits, rest_fits, remainder_positive}
 use Rattle.flex_num.proofs.division.nearest_div.Goals as goal
 
 pub overflow_sub-d : goal.overflow_sub-d

@@ -5,8 +5,7 @@ use Rattle.std.proofs.lemmas.Grind.{get_or_default_zero}
 use Rattle.flex_interval.specs.Ends.{Ends}
 use Rattle.member_set.specs.declared.members.Member.{Member}
 use Rattle.member_set.specs.declared.members.Built.{Built}
-use Rattle.member_set.specs.Members.{no_member, Touches, member_of, IsBuilt}
-use Rattle.certificate.specs.Bounds.{IsStiff, AreStiff}
+use Rattle.member_set.specs.Members.{no_member, Touches, member_of, IsBuilt, IsStiff, AreStiff}
 use Rattle.matrix_tests.proofs.bounds.held_node.Goals as goal
 
 -- the numbers from 0 on, at the only node

@@ -26,17 +26,17 @@ pub less_member-requires-clause-first_node : goal.less_member-requires-clause-fi
 less_member-requires-clause-first_node c =
     let inside = c.members_at-k-items.ensures.in_range c.loop-k.k-index c.loop-k-test.true in
     let member_is = get_or_read_under c.args.b.now.members _ _ c.index-as_slice-k.result no_member (rw (← c.as_slice.ensures) c.index-as_slice-k.is) inside refl in
-    rw (member_is, c.requires.one_displacement_each) (rows_fit c.args.b.now c.requires.built _ inside).0
+    rw (member_is, c.requires.one_displacement_each) (rows_fit c.args.b.now c.requires.system.built _ inside).0
 
 pub less_member-requires-clause-second_node : goal.less_member-requires-clause-second_node
 less_member-requires-clause-second_node c =
     let inside = c.members_at-k-items.ensures.in_range c.loop-k.k-index c.loop-k-test.true in
     let member_is = get_or_read_under c.args.b.now.members _ _ c.index-as_slice-k.result no_member (rw (← c.as_slice.ensures) c.index-as_slice-k.is) inside refl in
-    rw (member_is, c.requires.one_displacement_each) (rows_fit c.args.b.now c.requires.built _ inside).1
+    rw (member_is, c.requires.one_displacement_each) (rows_fit c.args.b.now c.requires.system.built _ inside).1
 
 pub loop-k-init : goal.loop-k-init
 loop-k-init c =
-    let load_is = sym (get_or_read_under c.args.loads.now c.args.row _ c.index-loads-row.result nothing c.index-loads-row.is (omega arith) (sym c.requires.lists.one_load_each)) in
+    let load_is = sym (get_or_read_under c.args.loads.now c.args.row _ c.index-loads-row.result nothing c.index-loads-row.is (omega arith) (sym c.requires.system.one_load_each)) in
     record {
       items = c.members_at-k-items.ensures.numbers;
       inside = c.members_at-k-items.ensures.in_range;
@@ -58,7 +58,7 @@ returns-in_err-rest-clause-value c =
     let number = slice_index c.members_at-k-items.result.now c.loop-k.k-index in
     let listed : c.index-as_slice-k.result ≡ get_or c.args.b.now.members number c.index-as_slice-k.result = rw (← c.as_slice.ensures) c.index-as_slice-k.is in
     let member_is = get_or_read_under c.args.b.now.members _ _ c.index-as_slice-k.result no_member listed inside refl in
-    let law_is = get_or_read_under c.args.laws.now _ _ c.index-laws-k.result no_law c.index-laws-k.is inside (sym c.requires.lists.one_law_each) in
+    let law_is = get_or_read_under c.args.laws.now _ _ c.index-laws-k.result no_law c.index-laws-k.is inside (sym c.requires.system.one_law_each) in
     rw (p.1, p.2)
     (sym (residual-fault c.args.b.now c.args.loads.now (forces_of c.args.b.now c.args.laws.now c.args.u.now) c.args.row c.loop-k.k-index c.members_at-k-items.result.now _
     c.members_at-k-items.ensures.numbers c.loop-k-test.true
@@ -73,7 +73,7 @@ loop-k-preserved c =
     let number = slice_index c.members_at-k-items.result.now c.loop-k.k-index in
     let listed : c.index-as_slice-k.result ≡ get_or c.args.b.now.members number c.index-as_slice-k.result = rw (← c.as_slice.ensures) c.index-as_slice-k.is in
     let member_is = get_or_read_under c.args.b.now.members k _ c.index-as_slice-k.result no_member listed inside refl in
-    let law_is = get_or_read_under c.args.laws.now k _ c.index-laws-k.result no_law c.index-laws-k.is inside (sym c.requires.lists.one_law_each) in
+    let law_is = get_or_read_under c.args.laws.now k _ c.index-laws-k.result no_law c.index-laws-k.is inside (sym c.requires.system.one_law_each) in
     record {
       items = c.loop-k.invariant.items;
       inside = c.loop-k.invariant.inside;
@@ -99,5 +99,5 @@ returns-clause-within c = λ r real.
     let done : c.loop-k.k-index ≡ length (members_at c.args.b.now (c.args.row / 6)) = omega (arith, ap (λ (xs : List ℕ). length xs) c.members_at-k-items.ensures.numbers) in
     let none : (k : ℕ) → k < length c.args.b.now.members → shape_at (member_of c.args.b.now k) c.args.row ≡ nothing → (r.member k).shape c.args.row ≡ pos 0 =
     λ k inside off. nothing_is_zero _ r.denominator (rw off at ((real.member_within k (rw real.all_members inside)).shape_within c.args.row)) in
-    let sum = resistance_by_node c.args.b.now c.requires.built c.args.row (λ k. (r.member k).shape c.args.row) (force_in r u) (omega arith) none in
+    let sum = resistance_by_node c.args.b.now c.requires.system.built c.args.row (λ k. (r.member k).shape c.args.row) (force_in r u) (omega arith) none in
     rw (real.all_members, ← sum, ← done, ← c.members_at-k-items.ensures.numbers) (c.loop-k.invariant.within r real)

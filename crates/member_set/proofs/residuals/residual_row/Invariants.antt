@@ -2,7 +2,7 @@ use Rattle.std.proofs.Common.{◌≡◌, ℕ, ◌/◌, ◌<◌, length, slice_in
 use Rattle.int_laws.specs.Sums.{sum_below}
 use Rattle.flex_interval.specs.Fraction.{Within}
 use Rattle.flex_interval.specs.Operations.{sub_of}
-use Rattle.member_set.specs.Members.{load_of, members_at}
+use Rattle.member_set.specs.Members.{load_of, members_at, system}
 use Rattle.member_set.specs.Realisation.{Realisation, IsRealisation, displaced, force_in, exact_load, pull_fraction}
 use Rattle.member_set.specs.Interval.{in_turn, residual_term, forces_of}
 use Rattle.member_set.proofs.residuals.residual_row.Given as goal
@@ -13,7 +13,7 @@ invariant-loop-k l =
       items : l.k-items ≡ members_at l.b (l.row / 6);
       inside : (t : ℕ) → t < length l.k-items → slice_index l.k-items t < length l.b.members;
       value : in_turn sub_of (load_of l.loads l.row) (residual_term l.b (forces_of l.b l.laws l.u) l.row) l.k-index ≡ Ok l.rest;
-      within : (r : Realisation) → IsRealisation l.b l.laws l.loads r →
+      within : (r : Realisation) → IsRealisation (system l.b l.laws l.loads) r →
           Within l.rest (pull_fraction r.denominator (exact_load r l.row -ℤ sum_below l.k-index (λ t.
           (r.member (slice_index l.k-items t)).shape l.row *ℤ force_in r (displaced r.denominator l.u) (slice_index l.k-items t))));
     }

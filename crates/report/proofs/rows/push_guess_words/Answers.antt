@@ -1,7 +1,7 @@
 use Rattle.std.proofs.Common.{◌≡◌, ◌+◌, List, ◌∷◌, ◌++◌, get_or, drop, map, add-one, ap, rules, ℤ, pos, ◌*ℤ◌, ◌^◌, FitsSigned, to_z-of_z}
 use Rattle.std.proofs.Math.Seq.{drop-cons}
 use Rattle.std.specs.Int.{w128}
-use Rattle.flex_num.specs.Division.{nearest_of}
+use Rattle.int_laws.specs.Division.{nearest_of}
 use Rattle.report.specs.Report.{guess_word}
 use Rattle.report.specs.Words.{spaced}
 use Rattle.report.proofs.LineLemmas.{written}

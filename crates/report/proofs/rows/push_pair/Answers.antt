@@ -1,6 +1,6 @@
 use Rattle.std.proofs.Common.{◌≡◌, ◌*ℤ◌, rules, FitsSigned, to_z-of_z}
 use Rattle.std.specs.Int.{w128}
-use Rattle.flex_num.specs.Division.{floor_of, ceil_of}
+use Rattle.int_laws.specs.Division.{floor_of, ceil_of}
 use Rattle.report.proofs.LineLemmas.{pair_written}
 use Rattle.report.proofs.RoundingLaw.{modest_fits}
 use Rattle.report.proofs.rows.push_pair.Goals as goal

@@ -6,6 +6,7 @@ use Rattle.solve.specs.Substitution.{at}
 use Rattle.solve.specs.Refinement.{IsMiddle}
 use Rattle.std.proofs.lemmas.Result.{err_from_is_err_and}
 use Rattle.solve.proofs.refinement.middles.Goals as goal
+use Rattle.member_set.specs.Members.{system}
 
 pub returns-in_err-member_forces : goal.returns-in_err-member_forces
 returns-in_err-member_forces c =
@@ -23,7 +24,7 @@ pub loop-row-preserved : goal.loop-row-preserved
 loop-row-preserved c =
     let row = c.loop-row.row in
     let r = c.loop-row.r in
-    let residual = residual_of c.args.b.now c.args.laws.now c.args.loads.now c.args.u.now in
+    let residual = residual_of (system c.args.b.now c.args.laws.now c.args.loads.now) c.args.u.now in
     let fits : FitsSigned w128 c.middle.result = search rules in
     let inside : row < length r = omega (arith, c.loop-row.auto.r) in
     let at_row = c.in_ok-residual_from.ensures.at_displacements c.args.laws.now c.args.u.now c.in_ok-member_forces.ensures.forces in

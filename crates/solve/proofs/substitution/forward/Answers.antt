@@ -2,7 +2,7 @@ use Rattle.std.proofs.Common.{◌≡◌, List, ℕ, ◌<◌, length, refl, sym, 
 use Rattle.std.proofs.lemmas.Result.{err_from_is_err_and}
 use Rattle.std.proofs.lemmas.List.{get_or_read_under, get_or_default}
 use Rattle.std.specs.Int.{w64, w128}
-use Rattle.flex_num.specs.Division.{nearest_of}
+use Rattle.int_laws.specs.Division.{nearest_of}
 use Rattle.lists.specs.Order.{IsSpread}
 use Rattle.factor_data.specs.Columns.{entry, column_rows, column_values}
 use Rattle.flex_num.specs.Guarded.{zero_sum, value_at}

@@ -4,7 +4,7 @@ use Rattle.std.proofs.lemmas.Int.{ints, by_lt_z}
 use Rattle.std.specs.Int.{w128, int_div_euclid, int_rem_euclid}
 use Rattle.int_laws.proofs.Sums.{int_sums}
 use Rattle.int_laws.proofs.Products.{add-mul, sub-mul, neg-mul, mul_comm, mul_assoc, one-mul, le_mul, lt_of_mul}
-use Rattle.flex_num.specs.Division.{IsFloor, IsCeiling, IsNearest, floor_of, ceil_of, nearest_of}
+use Rattle.int_laws.specs.Division.{IsFloor, IsCeiling, IsNearest, floor_of, ceil_of, nearest_of}
 
 double : (a : ℤ) → pos 2 *ℤ a ≡ a +ℤ a
 double a = omega (arith, ints)
@@ -169,3 +169,14 @@ rest_fits n d fits h = let bounds = remainder_bounds n d h in omega (arith, int_
 
 pub remainder_positive : (r d : ℤ) → pos 0 <ℤ d → (d -ℤ r) ≤ℤ r → pos 0 <ℤ r
 remainder_positive r d h more = omega (arith, int_sums)
+
+-- ---- what lies below and above a number n / d, divided by m
+pub below_divided : (q m p n d : ℤ) → pos 0 ≤ℤ d → (q *ℤ m) ≤ℤ p → (p *ℤ d) ≤ℤ n → (q *ℤ (d *ℤ m)) ≤ℤ n
+below_divided q m p n d h below low =
+    let scaled = le_mul d h below in
+    omega (arith, int_sums, mul_assoc q m d, ap (λ z. q *ℤ z) (mul_comm m d))
+
+pub above_divided : (q m p n d : ℤ) → pos 0 ≤ℤ d → p ≤ℤ (q *ℤ m) → n ≤ℤ (p *ℤ d) → n ≤ℤ (q *ℤ (d *ℤ m))
+above_divided q m p n d h above high =
+    let scaled = le_mul d h above in
+    omega (arith, int_sums, mul_assoc q m d, ap (λ z. q *ℤ z) (mul_comm m d))

@@ -7,7 +7,7 @@ use Rattle.int_laws.proofs.Sums.{int_sums}
 use Rattle.int_laws.proofs.Products.{mul-add, sub-mul, mul-sub, mul_comm, mul_assoc, mul_swap, square_nonnegative, mul_nonnegative, le_mul, le_of_mul}
 use Rattle.int_laws.proofs.SumLaws.{sum_below-same, sum_below-le, sum_below-add, sum_below-sub, sum_below-mul}
 use Rattle.int_laws.specs.Matrices.{Vector, Entries, absolute, scalar_matrix, gram, quadratic_form, squared_norm, IsSymmetric}
-use Rattle.certificate.specs.Definiteness.{CholeskyTest, residual, row_margin, NoRowFails, IsDefinitenessMargin, SymmetricFractions, IsWithinRadii, EachIsDefiniteWith, PassedTestIsProof}
+use Rattle.bound_laws.specs.Definiteness.{CholeskyTest, residual, row_margin, NoRowFails, IsDefinitenessMargin, SymmetricFractions, IsWithinRadii, EachIsDefiniteWith, PassedTestIsProof}
 use Rattle.int_laws.proofs.FormLaws.{form-same, form-add, form-mul, form-scalar, scalar-symmetric, form-gram, gram-symmetric, row_weighted, form-symmetric}
 
 -- what the shift and the square leave of a matrix of fractions: scale K - q scale mu I - q G G^T

@@ -6,31 +6,22 @@
 use Rattle.std.specs.Prelude.{ℕ, ◌^◌, ◌<◌, ◌≡◌, List, length, slice_index_or, ℤ, pos, ◌+ℤ◌, ◌-ℤ◌, ◌*ℤ◌, ◌≤ℤ◌}
 use Rattle.std.specs.Int.{int_max}
 use Rattle.int_laws.specs.Sums.{sum_below}
-use Rattle.flex_num.specs.Division.{ceil_of}
+use Rattle.int_laws.specs.Division.{ceil_of}
 use Rattle.flex_num.specs.Root.{root_up_of}
 use Rattle.flex_interval.specs.Ends.{Ends}
 use Rattle.flex_interval.specs.Fraction.{Within}
-use Rattle.member_set.specs.declared.members.Law.{Law}
 use Rattle.member_set.specs.declared.members.Built.{Built}
-use Rattle.member_set.specs.Members.{member_of, force_of}
-use Rattle.member_set.specs.Realisation.{Realisation, IsRealisation, IsEquilibrium, force_in, exact_residual, displaced, fraction, force_fraction}
+use Rattle.member_set.specs.Members.{member_of, force_of, System}
+use Rattle.member_set.specs.Realisation.{Realisation, IsRealisation, IsEquilibrium, entry_unit, every_member, exact_entry, force_in, exact_residual, displaced, fraction, force_fraction}
 use Rattle.int_laws.specs.Matrices.{Vector, Entries, absolute, squared_norm}
-use Rattle.certificate.specs.Definiteness.{SymmetricFractions, IsDefiniteWith}
+use Rattle.bound_laws.specs.Definiteness.{SymmetricFractions, IsDefiniteWith}
 
 -- ---- the stiffness of a realisation
 
--- the sum over the members of K W_i W_j
-abbrev pub member_sum : Realisation → Entries
-member_sum r i j = sum_below r.members (λ k. (r.member k).stiffness *ℤ ((r.member k).shape i *ℤ (r.member k).shape j))
-
--- 2^112 q^3: a product of a stiffness and two shape numbers is so many times its value in 2^-20 N/m
-abbrev pub stiffness_unit : Realisation → ℤ
-stiffness_unit r = pos (2 ^ 112) *ℤ ((r.denominator *ℤ r.denominator) *ℤ r.denominator)
-
 -- k is the realisation's own matrix of stiffnesses, in units of 2^-20 N/m
 pub record IsStiffnessMatrix (r : Realisation) (k : SymmetricFractions r.rows) : Type 0 where
-  pub entry : (i j : ℕ) → i < r.rows → j < r.rows → k.numerator i j ≡ member_sum r i j
-  pub unit : k.denominator ≡ stiffness_unit r
+  pub entry : (i j : ℕ) → i < r.rows → j < r.rows → k.numerator i j ≡ exact_entry every_member r i j
+  pub unit : k.denominator ≡ entry_unit r.denominator
 
 -- no stiffness has a lower end below 0
 abbrev pub NoNegativeStiffness : Built → Type 0
@@ -53,24 +44,24 @@ left_over r u row = (exact_residual r (displaced r.denominator u) row).num
 -- lambda |e| ≤ |r|, and lambda f^2 ≤ kappa |r|^2 for each member, as whole numbers
 pub record IsNear (r : Realisation) (lambda : ℤ) (u : List ℤ) (exact : Vector) : Type 0 where
   pub displacements :
-      (((lambda *ℤ stiffness_unit r) *ℤ (lambda *ℤ stiffness_unit r)) *ℤ squared_norm r.rows (displacement_error r u exact))
+      (((lambda *ℤ entry_unit r.denominator) *ℤ (lambda *ℤ entry_unit r.denominator)) *ℤ squared_norm r.rows (displacement_error r u exact))
       ≤ℤ squared_norm r.rows (left_over r u)
   pub forces : (k : ℕ) → k < r.members →
-      ((lambda *ℤ stiffness_unit r) *ℤ (force_error r u exact k *ℤ force_error r u exact k))
+      ((lambda *ℤ entry_unit r.denominator) *ℤ (force_error r u exact k *ℤ force_error r u exact k))
       ≤ℤ ((r.member k).stiffness *ℤ squared_norm r.rows (left_over r u))
 
 -- ---- the law
 
 -- every realisation has its matrix of stiffnesses
 abbrev pub StiffnessMatrixExists : Type 0
-StiffnessMatrixExists = (b : Built) (laws : List Law) (loads : List Ends) (r : Realisation) → IsRealisation b laws loads r →
+StiffnessMatrixExists = (s : System) (r : Realisation) → IsRealisation s r →
     (k : SymmetricFractions r.rows) × IsStiffnessMatrix r k
 
 -- where a realisation's stiffness is definite with lambda, every equilibrium is near to any displacements
 abbrev pub EquilibriaAreNear : Type 0
-EquilibriaAreNear = (b : Built) (laws : List Law) (loads : List Ends) (r : Realisation) (k : SymmetricFractions r.rows)
+EquilibriaAreNear = (s : System) (r : Realisation) (k : SymmetricFractions r.rows)
     (lambda : ℤ) (u : List ℤ) (exact : Vector) →
-    NoNegativeStiffness b → IsRealisation b laws loads r → IsStiffnessMatrix r k → IsDefiniteWith r.rows lambda k → pos 1 ≤ℤ lambda →
+    NoNegativeStiffness s.structure → IsRealisation s r → IsStiffnessMatrix r k → IsDefiniteWith r.rows lambda k → pos 1 ≤ℤ lambda →
     IsEquilibrium r exact → IsNear r lambda u exact
 
 -- ---- the same as intervals, in the units of the enclosures
@@ -113,10 +104,10 @@ pub record IsEnclosed (r : Realisation) (u : List ℤ) (forces : List Ends) (rad
 
 -- what is near is within the radii
 abbrev pub NearIsEnclosed : Type 0
-NearIsEnclosed = (b : Built) (laws : List Law) (loads : List Ends) (r : Realisation) (lambda : ℤ) (u : List ℤ) (exact : Vector)
+NearIsEnclosed = (s : System) (r : Realisation) (lambda : ℤ) (u : List ℤ) (exact : Vector)
     (forces : List Ends) (size radius : ℤ) (force_radius : ℕ → ℤ) →
-    NoNegativeStiffness b → IsRealisation b laws loads r → pos 1 ≤ℤ lambda → IsNear r lambda u exact →
-    pos 0 ≤ℤ size → IsResidualLength r u size → AreRadii b lambda size radius force_radius → AreForcesWithin r u forces →
+    NoNegativeStiffness s.structure → IsRealisation s r → pos 1 ≤ℤ lambda → IsNear r lambda u exact →
+    pos 0 ≤ℤ size → IsResidualLength r u size → AreRadii s.structure lambda size radius force_radius → AreForcesWithin r u forces →
     IsEnclosed r u forces radius force_radius exact
 
 -- ---- a length and radii that are enough, in whole numbers
@@ -143,7 +134,13 @@ displacement_radius_of lambda size = ceil_of (size *ℤ pos (2 ^ 36)) lambda
 abbrev pub force_radius_of : ℤ → ℤ → ℤ → ℤ
 force_radius_of lambda size kappa = ceil_of (size *ℤ root_up_of (ceil_of (kappa *ℤ pos (2 ^ 40)) lambda)) (pos (2 ^ 20))
 
+-- what is rounded up is enough
 abbrev pub RoundedRadiiAreEnough : Type 0
 RoundedRadiiAreEnough = (b : Built) (lambda size : ℤ) → pos 1 ≤ℤ lambda → pos 0 ≤ℤ size →
     ((k : ℕ) → k < length b.members → pos 0 ≤ℤ (member_of b k).kappa.hi) →
     AreRadii b lambda size (displacement_radius_of lambda size) (λ k. force_radius_of lambda size (member_of b k).kappa.hi)
+
+-- no radius of a length is negative, where lambda is positive
+abbrev pub RadiiAreNotNegative : Type 0
+RadiiAreNotNegative = (lambda squares kappa : ℤ) → pos 1 ≤ℤ lambda →
+    (pos 0 ≤ℤ displacement_radius_of lambda (root_up_of squares)) × (pos 0 ≤ℤ force_radius_of lambda (root_up_of squares) kappa)

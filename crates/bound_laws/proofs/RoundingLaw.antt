@@ -1,20 +1,23 @@
 -- Lengths and radii rounded up are enough.
-use Rattle.std.proofs.Common.{◌^◌, sym, ◌∙◌, ap, arith, ℤ, pos, ◌*ℤ◌, neg_ℤ, ◌≤ℤ◌, ◌<ℤ◌}
+use Rattle.std.specs.Prelude.{if◌then◌else◌}
+use Rattle.std.specs.Ordering.{int_eq}
+use Rattle.std.proofs.Common.{true, false, ◌+ℤ◌, ◌^◌, sym, ◌∙◌, ap, arith, ℤ, pos, ◌*ℤ◌, neg_ℤ, ◌≤ℤ◌, ◌<ℤ◌}
 use Rattle.std.proofs.lemmas.Int.{ints, clamps, by_lt_z}
 use Rattle.int_laws.proofs.Sums.{int_sums}
 use Rattle.int_laws.proofs.Products.{neg-mul, mul_comm, mul_assoc, mul_mul_mul_comm, zero-mul, square_nonnegative, mul_nonnegative, le_mul, le_of_mul, square_le}
 use Rattle.int_laws.proofs.SumLaws.{sum_below-le, sum_below-mul}
-use Rattle.flex_num.specs.Division.{ceil_of}
-use Rattle.flex_num.specs.Root.{root_up_of}
-use Rattle.flex_num.proofs.DivisionLemmas.{ceil_of-is}
+use Rattle.int_laws.specs.Division.{ceil_of}
+use Rattle.int_laws.specs.Powers.{power}
+use Rattle.flex_num.specs.Root.{root_of, root_up_of}
+use Rattle.int_laws.proofs.DivisionLemmas.{ceil_of-is}
 use Rattle.flex_num.proofs.RootLemmas.{root_up_of-is}
 use Rattle.flex_interval.specs.Ends.{Ends}
 use Rattle.flex_interval.specs.Fraction.{Within}
 use Rattle.member_set.specs.Members.{member_of}
-use Rattle.member_set.specs.Realisation.{fraction}
+use Rattle.member_set.specs.Realisation.{entry_unit, every_member, exact_entry, fraction}
 use Rattle.int_laws.specs.Matrices.{squared_norm}
-use Rattle.certificate.specs.Enclosure.{residual_unit, left_over, greater_size, SizesGiveLength, force_radius_of, RoundedRadiiAreEnough}
-use Rattle.certificate.proofs.RadiusLaw.{square-neg}
+use Rattle.bound_laws.specs.Nearness.{residual_unit, left_over, greater_size, SizesGiveLength, displacement_radius_of, force_radius_of, RoundedRadiiAreEnough, RadiiAreNotNegative}
+use Rattle.bound_laws.proofs.RadiusLaw.{square-neg}
 
 -- ---- a length of what is left
 
@@ -75,7 +78,7 @@ root_enough lambda size kappa t ratio root radius lambda_up size_up root_up unit
     (omega (arith, int_sums, second, third, left, middle, right))
 
 -- a quotient of what isn't negative, rounded up, isn't negative
-pub ceiling_not_negative : (n d : ℤ) → pos 0 <ℤ d → pos 0 ≤ℤ n → pos 0 ≤ℤ ceil_of n d
+ceiling_not_negative : (n d : ℤ) → pos 0 <ℤ d → pos 0 ≤ℤ n → pos 0 ≤ℤ ceil_of n d
 ceiling_not_negative n d d_up n_up =
     le_of_mul d (pos 0) (ceil_of n d) d_up (omega (arith, int_sums, (ceil_of-is n d d_up).at_least, zero-mul d, n_up))
 
@@ -100,3 +103,21 @@ rounded_radii_are_enough b lambda size one size_up stiff =
           ceiling_not_negative (size *ℤ root_up_of (ceil_of ((member_of b k).kappa.hi *ℤ pos (2 ^ 40)) lambda)) (pos (2 ^ 20)) unit_up
           (mul_nonnegative size (root_up_of (ceil_of ((member_of b k).kappa.hi *ℤ pos (2 ^ 40)) lambda)) size_up (root (member_of b k).kappa.hi (stiff k inside)).nonnegative);
     }
+
+root_not_negative : (n : ℤ) → pos 0 ≤ℤ root_up_of n
+unfolding root_of root_up_of
+root_not_negative n = elim (int_eq (power (root_of n) 2) n) as (λ t. pos 0 ≤ℤ (if t then root_of n else root_of n +ℤ pos 1)) [
+  | true ↦ omega (arith, ints)
+  | false ↦ omega (arith, ints)
+]
+
+pub radii_are_not_negative : RadiiAreNotNegative
+radii_are_not_negative lambda squares kappa one =
+    let lambda_up : pos 0 <ℤ lambda = omega (arith, int_sums, one) in
+    let size = root_up_of squares in
+    let size_up = root_not_negative squares in
+    let root = root_up_of (ceil_of (kappa *ℤ pos (2 ^ 40)) lambda) in (
+      ceiling_not_negative (size *ℤ pos (2 ^ 36)) lambda lambda_up (mul_nonnegative size (pos (2 ^ 36)) size_up (omega (arith, ints))),
+      ceiling_not_negative (size *ℤ root) (pos (2 ^ 20)) (omega (arith, ints))
+          (mul_nonnegative size root size_up (root_not_negative (ceil_of (kappa *ℤ pos (2 ^ 40)) lambda))),
+    )

@@ -5,15 +5,15 @@ use Rattle.std.proofs.lemmas.Int.{ints}
 use Rattle.std.proofs.lemmas.Bool.{cases_eq}
 use Rattle.int_laws.specs.Sums.{sum_below}
 use Rattle.int_laws.proofs.Sums.{int_sums}
-use Rattle.int_laws.proofs.Products.{mul-add, sub-mul, mul-sub, zero-mul, mul_comm, mul_assoc, mul_swap, square_nonnegative, mul_nonnegative, mul_positive, le_mul}
+use Rattle.int_laws.proofs.Products.{mul_turn, mul-add, sub-mul, mul-sub, zero-mul, mul_comm, mul_assoc, mul_swap, square_nonnegative, mul_nonnegative, mul_positive, le_mul}
 use Rattle.int_laws.proofs.SumLaws.{sum_below-same, sum_below-sub, sum_below-mul, sum_below-swap, sum_below-nonnegative}
 use Rattle.flex_interval.specs.Ends.{Ends}
 use Rattle.flex_interval.specs.Fraction.{Within}
 use Rattle.member_set.specs.Members.{member_of}
-use Rattle.member_set.specs.Realisation.{ExactLaw, linear, ExactMember, Realisation, IsEquilibrium, stretch, exact_reach, force_in, resistance, exact_load, displaced, fraction}
+use Rattle.member_set.specs.Realisation.{entry_unit, every_member, exact_entry, ExactLaw, linear, ExactMember, Realisation, IsEquilibrium, stretch, exact_reach, force_in, resistance, exact_load, displaced, fraction}
 use Rattle.int_laws.specs.Matrices.{Vector, Entries, quadratic_form, squared_norm}
-use Rattle.certificate.specs.Definiteness.{SymmetricFractions, IsDefiniteWith}
-use Rattle.certificate.specs.Enclosure.{member_sum, stiffness_unit, IsStiffnessMatrix, displacement_error, force_error, left_over, StiffnessMatrixExists, EquilibriaAreNear}
+use Rattle.bound_laws.specs.Definiteness.{SymmetricFractions, IsDefiniteWith}
+use Rattle.bound_laws.specs.Nearness.{IsStiffnessMatrix, displacement_error, force_error, left_over, StiffnessMatrixExists, EquilibriaAreNear}
 use Rattle.int_laws.proofs.FormLaws.{form-same, form-add, form-mul, form-column, form-none}
 
 -- ---- sums of squares, without products of lengths
@@ -163,7 +163,10 @@ work-left r u exact balanced =
 form-work : (r : Realisation) (k : SymmetricFractions r.rows) (e : Vector) → IsStiffnessMatrix r k →
     quadratic_form r.rows k.numerator e ≡ sum_below r.members (member_work r e)
 form-work r k e own =
-    form-same r.rows k.numerator (member_sum r) e own.entry
+    form-same r.rows k.numerator (λ i j. sum_below r.members (λ t. (r.member t).stiffness *ℤ ((r.member t).shape i *ℤ (r.member t).shape j))) e
+    (λ i j i_in j_in.
+    own.entry i j i_in j_in
+    ∙ sum_below-same r.members _ _ (λ t _. mul_swap ((r.member t).shape i) (r.member t).stiffness ((r.member t).shape j)))
     ∙ form-members r.rows r.members (λ k. (r.member k).stiffness) (λ k. (r.member k).shape) e
 
 -- a stiffness within an interval whose lower end isn't negative isn't negative
@@ -174,7 +177,7 @@ not_negative e n q within low =
     let more = mul_nonnegative e.lo q low (omega (arith, int_sums)) in
     omega (arith, int_sums, more, at_least)
 
-pub unit_positive : (r : Realisation) → pos 0 <ℤ r.denominator → pos 0 <ℤ stiffness_unit r
+pub unit_positive : (r : Realisation) → pos 0 <ℤ r.denominator → pos 0 <ℤ entry_unit r.denominator
 unit_positive r q =
     mul_positive (pos (2 ^ 112)) ((r.denominator *ℤ r.denominator) *ℤ r.denominator) (omega (arith, ints))
     (mul_positive (r.denominator *ℤ r.denominator) r.denominator (mul_positive r.denominator r.denominator q q) q)
@@ -182,10 +185,10 @@ unit_positive r q =
 -- l |e|^2 is at most the work, with l the bound in the realisation's units
 enough_work : (r : Realisation) (k : SymmetricFractions r.rows) (lambda : ℤ) (u : List ℤ) (exact : Vector) →
     IsStiffnessMatrix r k → IsDefiniteWith r.rows lambda k → IsEquilibrium r exact →
-    ((lambda *ℤ stiffness_unit r) *ℤ squared_norm r.rows (displacement_error r u exact)) ≤ℤ dot r.rows (displacement_error r u exact) (left_over r u)
+    ((lambda *ℤ entry_unit r.denominator) *ℤ squared_norm r.rows (displacement_error r u exact)) ≤ℤ dot r.rows (displacement_error r u exact) (left_over r u)
 enough_work r k lambda u exact own definite balanced =
     let e : Vector = displacement_error r u exact in
-    let scaled = ap (λ (z : ℤ). z *ℤ (lambda *ℤ squared_norm r.rows e)) own.unit ∙ mul_swap (stiffness_unit r) lambda (squared_norm r.rows e) ∙ sym (mul_assoc lambda (stiffness_unit r) (squared_norm r.rows e)) in
+    let scaled = ap (λ (z : ℤ). z *ℤ (lambda *ℤ squared_norm r.rows e)) own.unit ∙ mul_swap (entry_unit r.denominator) lambda (squared_norm r.rows e) ∙ sym (mul_assoc lambda (entry_unit r.denominator) (squared_norm r.rows e)) in
     let form = form-work r k e own in
     let work = work-left r u exact balanced in
     let below = definite e in
@@ -211,25 +214,24 @@ near_by_work r l u exact positive stiff balanced enough k inside =
     omega (arith, int_sums, bound, change)
 
 pub equilibria_near : EquilibriaAreNear
-equilibria_near b laws loads r k lambda u exact stiff real own definite one balanced =
-    let positive : pos 0 <ℤ (lambda *ℤ stiffness_unit r) = mul_positive lambda (stiffness_unit r) (omega (arith, int_sums)) (unit_positive r real.positive) in
+equilibria_near s r k lambda u exact stiff real own definite one balanced =
+    let positive : pos 0 <ℤ (lambda *ℤ entry_unit r.denominator) = mul_positive lambda (entry_unit r.denominator) (omega (arith, int_sums)) (unit_positive r real.positive) in
     let enough = enough_work r k lambda u exact own definite balanced in
     record {
-      displacements = error-bounded r.rows (lambda *ℤ stiffness_unit r) (displacement_error r u exact) (left_over r u) (omega (arith, int_sums, positive)) enough;
-      forces = near_by_work r (lambda *ℤ stiffness_unit r) u exact (omega (arith, int_sums, positive))
-          (λ i inside. stiffness_not_negative r i (member_of b i).kappa (real.member_within i inside).stiffness_within (stiff i (subst (λ (n : ℕ). i < n) real.all_members inside)))
+      displacements = error-bounded r.rows (lambda *ℤ entry_unit r.denominator) (displacement_error r u exact) (left_over r u) (omega (arith, int_sums, positive)) enough;
+      forces = near_by_work r (lambda *ℤ entry_unit r.denominator) u exact (omega (arith, int_sums, positive))
+          (λ i inside. stiffness_not_negative r i (member_of s.structure i).kappa (real.member_within i inside).stiffness_within (stiff i (subst (λ (n : ℕ). i < n) real.all_members inside)))
           balanced enough;
     }
 
 pub matrix_exists : StiffnessMatrixExists
-matrix_exists b laws loads r real = (
+matrix_exists s r real = (
   record {
-    numerator = member_sum r;
-    denominator = stiffness_unit r;
+    numerator = exact_entry every_member r;
+    denominator = entry_unit r.denominator;
     positive = unit_positive r real.positive;
     symmetric = λ i j _ _.
-        sum_below-same r.members (λ k. (r.member k).stiffness *ℤ ((r.member k).shape i *ℤ (r.member k).shape j)) (λ k. (r.member k).stiffness *ℤ ((r.member k).shape j *ℤ (r.member k).shape i))
-        (λ k _. ap (λ (z : ℤ). (r.member k).stiffness *ℤ z) (mul_comm ((r.member k).shape i) ((r.member k).shape j)));
+        sum_below-same r.members _ _ (λ k _. mul_turn ((r.member k).shape i) (r.member k).stiffness ((r.member k).shape j));
   },
   record { entry = λ i j _ _. refl; unit = refl },
 )

@@ -1,0 +1,4 @@
+pub mod DefinitenessLaw
+pub mod NearnessLaw
+pub mod RadiusLaw
+pub mod RoundingLaw

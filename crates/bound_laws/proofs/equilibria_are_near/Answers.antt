@@ -1,0 +1,15 @@
+use Rattle.bound_laws.proofs.NearnessLaw.{matrix_exists, equilibria_near}
+use Rattle.bound_laws.proofs.RadiusLaw.{near_enclosed}
+use Rattle.bound_laws.proofs.RoundingLaw.{sizes_give_length, rounded_radii_are_enough, radii_are_not_negative}
+use Rattle.bound_laws.proofs.equilibria_are_near.Goals as goal
+
+pub returns : goal.returns
+returns c =
+    record {
+      matrix = matrix_exists;
+      near = equilibria_near;
+      enclosed = near_enclosed;
+      length = sizes_give_length;
+      radii = rounded_radii_are_enough;
+      not_negative = radii_are_not_negative;
+    }

@@ -1,0 +1,2 @@
+pub mod Definiteness
+pub mod Nearness
