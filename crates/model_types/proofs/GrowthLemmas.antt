@@ -72,7 +72,7 @@ no_records_keep = record {
 
 -- rules that are kept, and a node, make a model
 pub IsModel-from : (m : Lists) → KeepsRules m → m.nodes ≢ [] → IsModel m
-IsModel-from m rules some = record { rules = rules; some_node = not_empty m.nodes some; kept = record { materials = all_keep m rules material_kind; sections = all_keep m rules section_kind; nodes = all_keep m rules node_kind; elements = all_keep m rules element_kind; restraints = all_keep m rules restraint_kind; cases = all_keep m rules case_kind; forces = all_keep m rules force_kind } ; few = record { materials = rules.limits material_kind; sections = rules.limits section_kind; nodes = rules.limits node_kind; elements = rules.limits element_kind; restraints = rules.limits restraint_kind; cases = rules.limits case_kind; forces = rules.limits force_kind } }
+IsModel-from m rules some = record { rules = rules; some_node = not_empty m.nodes some; kept = record { materials = all_keep m rules material_kind; sections = all_keep m rules section_kind; nodes = all_keep m rules node_kind; elements = all_keep m rules element_kind; restraints = all_keep m rules restraint_kind; cases = all_keep m rules case_kind; forces = all_keep m rules force_kind }; few = record { materials = rules.limits material_kind; sections = rules.limits section_kind; nodes = rules.limits node_kind; elements = rules.limits element_kind; restraints = rules.limits restraint_kind; cases = rules.limits case_kind; forces = rules.limits force_kind } }
 
 pub nodes_in_form : (m : Lists) → KeepsRules m → All NodeInForm m.nodes
 nodes_in_form m rules = λ i d inside. (all_keep m rules node_kind i d inside).form

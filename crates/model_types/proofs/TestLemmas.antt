@@ -79,23 +79,28 @@ IsSpan-from_tests nodes e a b apart near at_from at_to =
 -- the tests of a kind decide its own rule
 own-fail : (m : Lists) (r : Record) → AllFail (own_tests m r) ↔ KeepsOwn m r
 own-fail m (record_of.Material r) = ((λ fail. tt), (λ own. tt))
-own-fail m (record_of.Section r) =
-    ((λ fail. let walls = neither (int_le r.d (pos 2 *ℤ r.t)) (int_le r.t r.allowance) fail.0 in record { bore = int_below _ _ walls.0; sound_wall = int_below _ _ walls.1 }),
-    (λ own. (both _ _ (not_int_at_most _ _ own.bore) (not_int_at_most _ _ own.sound_wall), tt)))
+own-fail m (record_of.Section r) = (
+  (λ fail. let walls = neither (int_le r.d (pos 2 *ℤ r.t)) (int_le r.t r.allowance) fail.0 in record { bore = int_below _ _ walls.0; sound_wall = int_below _ _ walls.1 }),
+  (λ own. (both _ _ (not_int_at_most _ _ own.bore) (not_int_at_most _ _ own.sound_wall), tt)),
+)
 own-fail m (record_of.Node r) = ((λ fail. tt), (λ own. tt))
-own-fail m (record_of.Element r) =
-    ((λ fail a b at_from at_to. IsSpan-from_tests m.nodes r a b fail.0 fail.1.0 at_from at_to),
-    (λ own. (span_test (λ n. n == 0) m.nodes r (λ a b at_from at_to. not_zero _ (own a b at_from at_to).apart),
-    (span_test (nat_lt (longest * longest)) m.nodes r (λ a b at_from at_to. le-ltb _ _ (own a b at_from at_to).near), tt))))
+own-fail m (record_of.Element r) = (
+  (λ fail a b at_from at_to. IsSpan-from_tests m.nodes r a b fail.0 fail.1.0 at_from at_to),
+  (λ own. (
+    span_test (λ n. n == 0) m.nodes r (λ a b at_from at_to. not_zero _ (own a b at_from at_to).apart),
+    (span_test (nat_lt (longest * longest)) m.nodes r (λ a b at_from at_to. le-ltb _ _ (own a b at_from at_to).near), tt),
+  )),
+)
 own-fail m (record_of.Restraint r) = ((λ fail. tt), (λ own. tt))
 own-fail m (record_of.Case r) = ((λ fail. tt), (λ own. tt))
 own-fail m (record_of.Force r) = ((λ fail. tt), (λ own. tt))
 
 known-fail : (m : Lists) (rs : List Ref) → (lacks m rs ≡ false) ↔ AreThere m rs
 known-fail m [] = ((λ fail. tt), (λ known. refl))
-known-fail m (ref ∷ rest) =
-    ((λ fail. let parts = neither (nat_le (count m ref.kind) ref.number) (lacks m rest) fail in (leb-false _ _ parts.0, (known-fail m rest).0 parts.1)),
-    (λ known. both _ _ (lt-leb _ _ known.0) ((known-fail m rest).1 known.1)))
+known-fail m (ref ∷ rest) = (
+  (λ fail. let parts = neither (nat_le (count m ref.kind) ref.number) (lacks m rest) fail in (leb-false _ _ parts.0, (known-fail m rest).0 parts.1)),
+  (λ known. both _ _ (lt-leb _ _ known.0) ((known-fail m rest).1 known.1)),
+)
 
 new-fail : (keyed : Bool) (names : List (List ℕ)) (name : List ℕ) → ((keyed && is_some (position (pointwise nat_eq name) names)) ≡ false) ↔ (IsTrue keyed → ¬ (Contains names name))
 new-fail true names name = ((λ fail keyed. by (position (pointwise nat_eq name) names) refl fail), (λ new. absent_key names name (new refl)))
@@ -119,9 +124,10 @@ module _ (m : Lists) (r : Record) where
 
   pub refused_none : MayBeNext m r → refusal m r ≡ None
   refused_none next =
-      (first_refusal-None (tests m r)).1
-      ((new-fail (is_keyed (kind_of r)) (keys m (kind_of r)) (key r)).1 next.new,
-      ((known-fail m (refs r)).1 next.keeps.known, (AllFail-more (own_tests m r) (test 14 (is_too_many m r) ∷ [])).1 ((own-fail m r).1 next.keeps.own, (lt-leb _ _ next.room, tt))))
+      (first_refusal-None (tests m r)).1 (
+        (new-fail (is_keyed (kind_of r)) (keys m (kind_of r)) (key r)).1 next.new,
+        ((known-fail m (refs r)).1 next.keeps.known, (AllFail-more (own_tests m r) (test 14 (is_too_many m r) ∷ [])).1 ((own-fail m r).1 next.keeps.own, (lt-leb _ _ next.room, tt))),
+      )
 
   pub may_be_next : InForm r → refusal m r ≡ None → MayBeNext m r
   may_be_next form none = refused_by_none form ((first_refusal-None (tests m r)).0 none)

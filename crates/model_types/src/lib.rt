@@ -8,8 +8,8 @@ pub mod answers;
 pub mod drafts;
 pub mod faults;
 pub mod ids;
-mod record_lists;
 pub mod models;
+mod record_lists;
 pub mod records;
 mod tables;
 
@@ -17,12 +17,12 @@ pub use answers::{Bounds, CaseAnswer, Cause, CheckAnswer, StationAnswer};
 pub use drafts::Draft;
 pub use faults::{AddFault, WholeFault};
 pub use ids::{CaseId, CheckId, ElementId, MaterialId, NodeId, RestraintId, SectionId, Space};
+pub use lists::Sequence;
 pub use models::{Model, records_follow};
 pub use records::{
     Case, Check, CheckKind, Element, Force, Material, Move, Node, Pressure, Record, Restraint,
     RestraintKind, Section, Shape, Tee, TeeKind, Temp,
 };
-pub use lists::Sequence;
 use std::alloc::AllocError;
 pub use text_words::Name;
 

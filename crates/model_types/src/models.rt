@@ -138,5 +138,4 @@ impl Model {
 /// The law of reading in order: a model's records, taken by kind, are each refused by no number against those before them.
 pub fn records_follow()
     ensures { RecordsFollow }
-{
-}
+{}
