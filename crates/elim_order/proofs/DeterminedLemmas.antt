@@ -1,10 +1,10 @@
 -- A graph has one order, or one broad node, and never both.
-use Rattle.std.proofs.Common.{◌≡◌, ℕ, zero, suc, ◌+◌, ◌<◌, ◌≤◌, List, [], ◌∷◌, ◌++◌, length, get_or, take, max, Contains, ◌⊎◌, inl, inr, ◌↔◌, ◌∙◌, sym, ap, arith, subst, refl, length-append, append-nil, append_assoc}
-use Rattle.std.proofs.lemmas.Bool.{cases_lt, cases_eq}
+use Rattle.std.proofs.Common.{◌≡◌, ℕ, zero, suc, ◌<◌, ◌≤◌, List, [], ◌∷◌, ◌++◌, length, get_or, take, max, Contains, ◌⊎◌, inl, inr, ◌↔◌, ◌∙◌, sym, ap, arith, subst, length-append, append-nil, append_assoc}
+use Rattle.std.proofs.lemmas.Bool.{cases_lt}
 use Rattle.std.proofs.lemmas.List.{get_or_append_left}
 use Rattle.lists.proofs.UniqueLemmas.{rising_unique}
 use Rattle.elim_order.specs.Graph.{after, AreNeighbours, HasDegree}
-use Rattle.elim_order.specs.Order.{IsLeft, IsLeastDegree, TakesRound, IsRound, LeadsTo, IsByRounds, IsNarrowAt, IsBroadAt, IsEliminationOrder, IsFirstBroad, IsFirstBroadAt}
+use Rattle.elim_order.specs.Order.{IsLeft, IsLeastDegree, TakesRound, IsRound, LeadsTo, IsNarrowAt, IsBroadAt, IsEliminationOrder, IsFirstBroad, IsFirstBroadAt}
 use Rattle.elim_order.proofs.GraphLemmas.{AreSame, after_same, narrow-append, front-append}
 
 turned : (g h : ℕ → ℕ → Type 0) → AreSame g h → AreSame h g

@@ -1,6 +1,6 @@
 -- The graph after some nodes are eliminated, and its fronts.
-use Rattle.std.proofs.Common.{◌≡◌, ◌≢◌, ℕ, suc, ◌+◌, ◌<◌, ◌≤◌, List, [], ◌∷◌, ◌++◌, length, get_or, take, drop, Contains, ◌⊎◌, inl, inr, ◌↔◌, ◌∙◌, sym, ap, arith, subst, refl, append-nil, length-append}
-use Rattle.std.proofs.lemmas.List.{take-append-le, take_at, get_or_append_left, get_or_at, take-append-drop, get_or-append-add}
+use Rattle.std.proofs.Common.{◌≡◌, ◌≢◌, ℕ, suc, ◌+◌, ◌<◌, List, [], ◌∷◌, ◌++◌, length, get_or, take, ◌⊎◌, inl, inr, ◌↔◌, ◌∙◌, sym, ap, arith, subst, refl}
+use Rattle.std.proofs.lemmas.List.{take-append-le, get_or_append_left, get_or-append-add}
 use Rattle.lists.specs.Lists.{list_of}
 use Rattle.elim_order.specs.Graph.{eliminated, after, AreNeighbours}
 use Rattle.elim_order.specs.Order.{AreFront, IsNarrowAt, IsBroadAt}

@@ -1,5 +1,5 @@
 -- Rising lists, and lists of lists.
-use Rattle.std.proofs.Common.{◌≡◌, ◌≢◌, ℕ, zero, suc, ◌+◌, ◌-◌, ◌<◌, ◌≤◌, List, [], ◌∷◌, ◌++◌, length, get_or, set, take, Contains, ◌⊎◌, inl, inr, ◌↔◌, ◌∙◌, sym, ap, arith, subst, refl, Bool, true, false, cond, eqb, Vec, Global, vec_len}
+use Rattle.std.proofs.Common.{◌≡◌, ◌≢◌, ℕ, zero, suc, ◌+◌, ◌-◌, ◌<◌, List, [], ◌∷◌, length, get_or, set, Contains, ◌⊎◌, inl, inr, ◌↔◌, ◌∙◌, sym, ap, arith, refl, Bool, true, false, cond, eqb, Vec, Global, vec_len}
 use Rattle.std.specs.List.{remove, filter}
 use Rattle.std.proofs.lemmas.List.{get_or_default, get_or-map, get_or-set_same, get_or-set_other}
 use Rattle.std.proofs.lemmas.List.Edits.{length-remove, get_or-remove_below, get_or-remove_above}
@@ -26,9 +26,12 @@ Contains-remove xs p y k up lt at =
             | inr from ↦
                 elim (cases_eq h.0 p) [
                   | inl e ↦ absurd (ne (sym h.2 ∙ get_or_default xs h.0 k 0 h.1 ∙ ap (λ (i : ℕ). get_or xs i 0) e ∙ at))
-                  | inr apart ↦
-                      (h.0 - 1, omega (arith, h.1), get_or-remove_above xs p k (h.0 - 1) (omega arith) lt
-                      ∙ ap (λ (i : ℕ). get_or xs i k) (let e : h.0 - 1 + 1 ≡ h.0 = omega arith in e) ∙ h.2)
+                  | inr apart ↦ (
+                    h.0 - 1,
+                    omega (arith, h.1),
+                    get_or-remove_above xs p k (h.0 - 1) (omega arith) lt
+                        ∙ ap (λ (i : ℕ). get_or xs i k) (let e : h.0 - 1 + 1 ≡ h.0 = omega arith in e) ∙ h.2,
+                  )
                 ]
           ],
     )

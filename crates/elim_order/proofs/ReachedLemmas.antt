@@ -1,15 +1,14 @@
 -- The rounds, one after another.
-use Rattle.std.proofs.Common.{◌≡◌, ◌≢◌, ℕ, ◌+◌, ◌-◌, ◌<◌, ◌≤◌, List, [], ◌∷◌, ◌++◌, length, get_or, take, Contains, ◌⊎◌, inl, inr, ◌↔◌, ◌∙◌, sym, ap, arith, subst, refl, Bool, true, false, length-append, append-nil, append_assoc}
+use Rattle.std.proofs.Common.{◌≡◌, ℕ, ◌+◌, ◌-◌, ◌<◌, ◌≤◌, List, [], ◌∷◌, ◌++◌, length, get_or, Contains, inl, inr, ◌↔◌, ◌∙◌, sym, ap, arith, subst, Bool, true, length-append}
 use Rattle.std.proofs.lemmas.Bool.{cases_lt, cases_eq}
-use Rattle.std.proofs.lemmas.List.{get_or_default, get_or_append_left, get_or-append-add}
+use Rattle.std.proofs.lemmas.List.{get_or_append_left, get_or-append-add}
 use Rattle.std.proofs.lemmas.List.Elements.{Contains-append_left, Contains-append_right, Contains-append_cases, Contains-get_or}
 use Rattle.lists.specs.Rising.{IsRising}
-use Rattle.lists.specs.Lists.{list_of}
 use Rattle.lists.specs.Order.{IsSpread, IsOrder}
 use Rattle.elim_order.specs.Graph.{after}
 use Rattle.elim_order.specs.Order.{IsLeft, IsRound, LeadsTo, IsByRounds, IsNarrowAt, IsEliminationOrder, IsFirstBroad}
-use Rattle.elim_order.specs.Queue.{is_left, left_count, IsQueue, IsLeastKey, Marks}
-use Rattle.elim_order.specs.State.{AreNeighbourLists, IsGraph, TakesApart, EliminatesRound, StopsAt}
+use Rattle.elim_order.specs.Queue.{is_left, left_count, IsQueue, Marks}
+use Rattle.elim_order.specs.State.{AreNeighbourLists, IsGraph, EliminatesRound, StopsAt}
 use Rattle.lists.proofs.UniqueLemmas.{decide_contains}
 use Rattle.elim_order.proofs.MarkLemmas.{left_count-none}
 use Rattle.elim_order.proofs.GraphLemmas.{lists_after, narrow-append, narrow-after, broad-after}
@@ -143,18 +142,21 @@ reached_order nodes graph lists left queue gone r none =
 
 -- a round that stops has the first node that is too broad
 pub reached_broad : (nodes : ℕ) (graph : ℕ → ℕ → Type 0) (lists : List (List ℕ)) (left : List Bool) (queue : List (List ℕ)) (gone round : List ℕ) (place node : ℕ) → IsReached nodes graph lists left queue gone → IsRound nodes graph gone round → StopsAt round lists place node → IsFirstBroad nodes graph node
-reached_broad nodes graph lists left queue gone round place node r is s =
-    (gone ++ round, length gone + place, record {
-      by_rounds = rounds_more nodes graph gone round r.rounds is;
-      in_range = omega (arith, length-append gone round, s.in_round);
-      node_is = get_or-append-add gone round place 0 ∙ s.node_is;
-      broad = broad-after graph lists gone round place r.told s.broad;
-      before = λ q lt.
-          elim (cases_lt q (length gone)) [
-            | inl before ↦ narrow-append graph gone round q before (r.narrow q before)
-            | inr from ↦
-                (let at : length gone + (q - length gone) ≡ q = omega arith in
-                let P : ℕ → Type 0 = λ z. IsNarrowAt graph (gone ++ round) z in
-                subst P at (narrow-after graph lists gone round (q - length gone) r.told (s.before (q - length gone) (omega arith))))
-          ];
-    })
+reached_broad nodes graph lists left queue gone round place node r is s = (
+  gone ++ round,
+  length gone + place,
+  record {
+    by_rounds = rounds_more nodes graph gone round r.rounds is;
+    in_range = omega (arith, length-append gone round, s.in_round);
+    node_is = get_or-append-add gone round place 0 ∙ s.node_is;
+    broad = broad-after graph lists gone round place r.told s.broad;
+    before = λ q lt.
+        elim (cases_lt q (length gone)) [
+          | inl before ↦ narrow-append graph gone round q before (r.narrow q before)
+          | inr from ↦
+              (let at : length gone + (q - length gone) ≡ q = omega arith in
+              let P : ℕ → Type 0 = λ z. IsNarrowAt graph (gone ++ round) z in
+              subst P at (narrow-after graph lists gone round (q - length gone) r.told (s.before (q - length gone) (omega arith))))
+        ];
+  },
+)

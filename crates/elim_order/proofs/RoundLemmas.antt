@@ -1,11 +1,11 @@
 -- The nodes of a round, one after another.
-use Rattle.std.proofs.Common.{◌≡◌, ◌≢◌, ℕ, ◌+◌, ◌<◌, ◌≤◌, List, [], ◌∷◌, ◌++◌, length, get_or, take, drop, max, Contains, ◌⊎◌, inl, inr, ◌↔◌, ◌∙◌, sym, ap, arith, subst, refl, length-append}
+use Rattle.std.proofs.Common.{◌≡◌, ◌≢◌, ℕ, ◌+◌, ◌<◌, ◌≤◌, List, [], ◌∷◌, ◌++◌, length, get_or, take, drop, max, Contains, inl, inr, sym, arith, subst, refl, length-append}
 use Rattle.std.proofs.lemmas.Bool.{cases_lt}
 use Rattle.std.proofs.lemmas.List.{take-append-drop, length-take-le}
 use Rattle.std.proofs.lemmas.List.Elements.{Contains-append_left, Contains-push}
 use Rattle.lists.specs.Rising.{IsRising}
 use Rattle.lists.specs.Lists.{list_of}
-use Rattle.elim_order.specs.Graph.{eliminated, after, AreNeighbours}
+use Rattle.elim_order.specs.Graph.{eliminated, after}
 use Rattle.elim_order.specs.Order.{IsNarrowAt}
 use Rattle.elim_order.specs.Queue.{key_of, Queues}
 use Rattle.elim_order.specs.State.{AreNeighbourLists, told, IsGraph, EliminatesRound, StopsAt}

@@ -1,5 +1,5 @@
 -- Where the rounds begin, and one turn of them.
-use Rattle.std.proofs.Common.{◌≡◌, ◌≢◌, ℕ, ◌+◌, ◌<◌, ◌≤◌, List, [], ◌∷◌, ◌++◌, length, get_or, replicate, Contains, All, ◌⊎◌, inl, inr, ◌↔◌, ◌∙◌, sym, ap, arith, subst, refl, Bool, true, false}
+use Rattle.std.proofs.Common.{◌≡◌, ◌≢◌, ℕ, ◌+◌, ◌<◌, List, [], ◌∷◌, ◌++◌, length, get_or, replicate, Contains, All, inl, inr, ◌↔◌, ◌∙◌, sym, ap, arith, subst, refl, Bool, true, false}
 use Rattle.std.proofs.lemmas.Bool.{cases_lt, cases_eq}
 use Rattle.std.proofs.lemmas.List.{get_or_past, get_or-replicate, get_or_default, length-replicate}
 use Rattle.std.proofs.lemmas.List.Elements.{Contains-append_left, Contains-push, Contains-push_cases, All-contains}
@@ -9,7 +9,7 @@ use Rattle.elim_order.specs.declared.fault.OrderFault.TheVariants.{Broad, NoMemo
 use Rattle.elim_order.specs.Graph.{links}
 use Rattle.elim_order.specs.Order.{IsRound, IsOrderFault}
 use Rattle.elim_order.specs.Queue.{key_of, is_left, left_count, IsQueue, IsLeastKey, Queues}
-use Rattle.elim_order.specs.State.{AreNeighbourLists, told, IsGraph, TakesApart, IsRoundFault}
+use Rattle.elim_order.specs.State.{AreNeighbourLists, IsGraph, TakesApart, IsRoundFault}
 use Rattle.elim_order.proofs.ListLemmas.{contains_none}
 use Rattle.elim_order.proofs.MarkLemmas.{left_in_range, left_count-all}
 use Rattle.elim_order.proofs.ReachedLemmas.{IsReached, reached_broad}

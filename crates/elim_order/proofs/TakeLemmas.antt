@@ -1,13 +1,13 @@
 -- The nodes that a round takes.
-use Rattle.std.proofs.Common.{◌≡◌, ◌≢◌, ℕ, ◌+◌, ◌<◌, ◌≤◌, List, [], ◌∷◌, ◌++◌, length, get_or, take, max, Contains, ◌⊎◌, inl, inr, ◌↔◌, ◌∙◌, sym, ap, arith, subst, refl, Bool, true, false}
+use Rattle.std.proofs.Common.{◌≡◌, ℕ, ◌<◌, ◌≤◌, List, [], ◌∷◌, ◌++◌, length, get_or, take, max, Contains, inl, inr, ◌↔◌, ◌∙◌, sym, ap, arith, subst, refl, Bool, true}
 use Rattle.std.proofs.lemmas.Bool.{cases_lt, cases_eq}
 use Rattle.std.proofs.lemmas.List.{get_or_default, get_or-take, length-take}
 use Rattle.std.proofs.lemmas.List.Elements.{Contains-append_left, Contains-push, Contains-push_cases}
 use Rattle.std.proofs.lemmas.List.Quantifiers.{all_pairs_push}
 use Rattle.lists.specs.Rising.{IsRising}
 use Rattle.lists.specs.Lists.{list_of}
-use Rattle.elim_order.specs.Graph.{after, AreNeighbours, HasDegree}
-use Rattle.elim_order.specs.Order.{IsLeft, IsLeastDegree, TakesRound, IsRound}
+use Rattle.elim_order.specs.Graph.{after, HasDegree}
+use Rattle.elim_order.specs.Order.{IsLeft, IsRound}
 use Rattle.elim_order.specs.Queue.{key_of, is_left, IsLeastKey}
 use Rattle.elim_order.specs.State.{AreNeighbourLists, told, TakesApart}
 use Rattle.elim_order.proofs.ListLemmas.{contains_none, contains_first, contains_rest, contains_cases}
@@ -34,13 +34,18 @@ takes_more lists done taken node below t free =
         λ h.
             elim (Contains-push_cases taken node n h) [
               | inl old ↦
-                  (let both = (t.members n).0 old in
-                  (Contains-append_left done (node ∷ []) n both.0, λ k tk lt l.
-                  elim (Contains-push_cases taken node k tk) [ inl o ↦ both.1 k o lt l | inr e ↦ absurd (omega (arith, below n both.0, e)) ]))
+                  (let both = (t.members n).0 old in (
+                    Contains-append_left done (node ∷ []) n both.0,
+                    λ k tk lt l.
+                        elim (Contains-push_cases taken node k tk) [ inl o ↦ both.1 k o lt l | inr e ↦ absurd (omega (arith, below n both.0, e)) ],
+                  ))
               | inr e ↦
                   (let P : ℕ → Type 0 = λ z. Contains (done ++ node ∷ []) z × ((k : ℕ) → Contains (taken ++ node ∷ []) k → k < z → told lists z k → ⊥) in
-                  subst P e (Contains-push done node, λ k tk lt l.
-                  elim (Contains-push_cases taken node k tk) [ inl o ↦ free k l o | inr e' ↦ absurd (omega (arith, e')) ]))
+                  subst P e (
+                    Contains-push done node,
+                    λ k tk lt l.
+                        elim (Contains-push_cases taken node k tk) [ inl o ↦ free k l o | inr e' ↦ absurd (omega (arith, e')) ],
+                  ))
             ],
         λ (h, apart).
             elim (Contains-push_cases done node n h) [
@@ -114,28 +119,31 @@ round_is nodes graph gone lists left queue key taken tells flags least t =
     let low = least_of degree_of (list_of queue key) least.some in
     let m = low.0 in
     let at = (least.current m).0 low.1 in
-    let at_key : max (degree_of m) 2 ≡ key = at.1 in
-    (degree_of m, record {
-      some = (m, (flags m).0 at.0, degree_has lists (after graph gone) m tells);
-      least = λ n e l has.
-          let is = degree_is lists (after graph gone) n e tells has in
-          let from = least.least n ((flags n).1 l) in
-          elim (cases_eq (key_of lists n) key) as (λ _. degree_of m ≤ e) [
-            | inl same ↦ omega (arith, is, low.2 n ((least.current n).1 ((flags n).1 l, same)))
-            | inr apart ↦ omega (arith, is, from, at_key)
-          ];
-    }, record {
-      rising = t.rising;
-      members = λ n. (
-        λ h.
-            let both = (t.members n).0 h in
-            let here = (least.current n).0 both.0 in
-            let key_is : max (degree_of n) 2 ≡ key = here.1 in
-            ((flags n).0 here.0, (degree_of n, degree_has lists (after graph gone) n tells, omega (arith, key_is, at_key)), λ k tk lt g. both.1 k tk lt ((tells.members n k).1 g)),
-        λ (l, (d, has, le), apart).
-            let is = degree_is lists (after graph gone) n d tells has in
+    let at_key : max (degree_of m) 2 ≡ key = at.1 in (
+      degree_of m,
+      record {
+        some = (m, (flags m).0 at.0, degree_has lists (after graph gone) m tells);
+        least = λ n e l has.
+            let is = degree_is lists (after graph gone) n e tells has in
             let from = least.least n ((flags n).1 l) in
-            let same : key_of lists n ≡ key = omega (arith, is, le, from, at_key) in
-            (t.members n).1 ((least.current n).1 ((flags n).1 l, same), λ k tk lt x. apart k tk lt ((tells.members n k).0 x)),
-      );
-    })
+            elim (cases_eq (key_of lists n) key) as (λ _. degree_of m ≤ e) [
+              | inl same ↦ omega (arith, is, low.2 n ((least.current n).1 ((flags n).1 l, same)))
+              | inr apart ↦ omega (arith, is, from, at_key)
+            ];
+      },
+      record {
+        rising = t.rising;
+        members = λ n. (
+          λ h.
+              let both = (t.members n).0 h in
+              let here = (least.current n).0 both.0 in
+              let key_is : max (degree_of n) 2 ≡ key = here.1 in
+              ((flags n).0 here.0, (degree_of n, degree_has lists (after graph gone) n tells, omega (arith, key_is, at_key)), λ k tk lt g. both.1 k tk lt ((tells.members n k).1 g)),
+          λ (l, (d, has, le), apart).
+              let is = degree_is lists (after graph gone) n d tells has in
+              let from = least.least n ((flags n).1 l) in
+              let same : key_of lists n ≡ key = omega (arith, is, le, from, at_key) in
+              (t.members n).1 ((least.current n).1 ((flags n).1 l, same), λ k tk lt x. apart k tk lt ((tells.members n k).0 x)),
+        );
+      },
+    )

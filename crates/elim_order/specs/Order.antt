@@ -1,5 +1,5 @@
 -- The order in which the nodes of a graph are eliminated: in rounds, by minimum degree.
-use Rattle.std.specs.Prelude.{◌≡◌, ℕ, ◌<◌, ◌≤◌, max, List, [], ◌∷◌, ◌++◌, length, take, slice_index, Contains, ◌⊎◌, ◌↔◌, ⊤}
+use Rattle.std.specs.Prelude.{◌≡◌, ℕ, ◌<◌, ◌≤◌, max, List, [], ◌∷◌, ◌++◌, length, take, slice_index, Contains, ◌↔◌, ⊤}
 use Rattle.lists.specs.Rising.{IsRising}
 use Rattle.elim_order.specs.Graph.{after, AreNeighbours, HasDegree}
 use Rattle.elim_order.specs.declared.fault.OrderFault.{OrderFault}

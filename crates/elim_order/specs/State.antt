@@ -1,8 +1,8 @@
 -- The lists of neighbours, as nodes are eliminated.
-use Rattle.std.specs.Prelude.{◌≡◌, ◌≢◌, ℕ, ◌+◌, ◌<◌, ◌≤◌, List, length, slice_index, Contains, ◌⊎◌, ◌↔◌, ⊤}
+use Rattle.std.specs.Prelude.{◌≡◌, ◌≢◌, ℕ, ◌<◌, List, length, slice_index, Contains, ◌⊎◌, ◌↔◌, ⊤}
 use Rattle.lists.specs.Rising.{IsRising}
 use Rattle.lists.specs.Lists.{list_of}
-use Rattle.elim_order.specs.Graph.{after, eliminated}
+use Rattle.elim_order.specs.Graph.{after}
 use Rattle.elim_order.specs.Order.{IsNarrowAt, IsBroadAt}
 use Rattle.elim_order.specs.Queue.{key_of}
 use Rattle.elim_order.specs.declared.fault.OrderFault.{OrderFault}

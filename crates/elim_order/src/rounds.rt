@@ -103,11 +103,7 @@ fn eliminate_round(
 }
 
 // Of nodes in order those that are no neighbour of one taken before.
-fn round_of(
-    alloc: Global,
-    neighbours: &[Vec<u32>],
-    nodes: &[u32],
-) -> Result<Vec<u32>, AllocError>
+fn round_of(alloc: Global, neighbours: &[Vec<u32>], nodes: &[u32]) -> Result<Vec<u32>, AllocError>
     requires rising { IsRising nodes.now }
     requires in_range { All (λ n. n < length neighbours.now) nodes.now }
     ensures { IfOk result (λ taken. TakesApart (contents neighbours.now) nodes.now taken.items) }

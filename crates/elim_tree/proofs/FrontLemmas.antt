@@ -1,9 +1,8 @@
 -- The later places of a front hold the neighbours that its node has when it is eliminated.
-use Rattle.std.proofs.Common.{◌≡◌, ◌≢◌, ℕ, zero, suc, ◌+◌, ◌<◌, ◌≤◌, List, [], ◌∷◌, ◌++◌, length, get_or, take, Contains, ◌⊎◌, inl, inr, ◌↔◌, ◌∙◌, sym, ap, arith, subst, refl}
+use Rattle.std.proofs.Common.{◌≡◌, ◌≢◌, ℕ, zero, suc, ◌+◌, ◌<◌, ◌≤◌, List, [], ◌∷◌, ◌++◌, length, get_or, take, ◌⊎◌, inl, inr, ◌↔◌, ◌∙◌, sym, ap, arith, subst, refl}
 use Rattle.std.proofs.lemmas.Bool.{cases_lt, cases_eq}
 use Rattle.std.proofs.lemmas.List.{take_more}
 use Rattle.std.proofs.lemmas.List.Elements.{Contains-get_or}
-use Rattle.lists.specs.Rising.{IsRising}
 use Rattle.lists.specs.Lists.{list_of}
 use Rattle.lists.specs.Order.{IsOrder}
 use Rattle.elimination.specs.Elimination.{Joined, IsLaterNeighbour}
@@ -36,11 +35,14 @@ joined_after g order ok (suc t) p q tp tq pl ql apart =
     let k-m : k ≢ m = λ e. (let s = ok.spread.apart q t ql (omega arith) e in omega (arith, s)) in
     let n-k : n ≢ k = λ e. apart (ok.spread.apart p q pl ql e) in (
       λ h.
-          subst (λ (T : Type 0). T) (sym whole)
-          (n-m, k-m, elim h as (λ _. after g (take t order) n k ⊎ ((n ≢ k) × after g (take t order) m n × after g (take t order) m k)) [
-            | inl j ↦ inl (own.0 j)
-            | inr (_, _, jp, jq) ↦ inr (n-k, to_p.0 jp, to_q.0 jq)
-          ]),
+          subst (λ (T : Type 0). T) (sym whole) (
+            n-m,
+            k-m,
+            elim h as (λ _. after g (take t order) n k ⊎ ((n ≢ k) × after g (take t order) m n × after g (take t order) m k)) [
+              | inl j ↦ inl (own.0 j)
+              | inr (_, _, jp, jq) ↦ inr (n-k, to_p.0 jp, to_q.0 jq)
+            ],
+          ),
       λ h.
           elim (subst (λ (T : Type 0). T) whole h).2 as (λ _. Joined (placed g order) (suc t) p q) [
             | inl a ↦ inl (own.1 a)
@@ -57,16 +59,20 @@ joined_in_range g order (suc t) p q (inr (_, _, jp, jq)) = ((joined_in_range g o
 pub later_narrow : (g : ℕ → ℕ → Type 0) (order : List ℕ) (later : List (List ℕ)) (p : ℕ) → IsOrder order → AreLater (placed g order) (length order) later → p < length order → IsNarrowAt g order p → length (list_of later p) ≤ 31
 later_narrow g order later p ok a pl (ns, front, few) =
     let xs = list_of later p in
-    omega (arith, few, fits_within (λ q. get_or order q 0) xs ns
-    (λ i j il jl e.
-    let same = ok.spread.apart (get_or xs i 0) (get_or xs j 0) (within i il) (within j jl) e in
-    elim (cases_lt i j) [
-      | inl before ↦ absurd (omega (arith, same, a.rising p i j 0 before jl))
-      | inr from ↦ elim (cases_eq i j) [ inl eq ↦ eq | inr ne ↦ absurd (omega (arith, same, a.rising p j i 0 (omega arith) il)) ]
-    ])
-    (λ i il.
-    let (lt, j) = neighbour i il in
-    (front.members (get_or order (get_or xs i 0) 0)).1 ((joined_after g order ok p p (get_or xs i 0) (omega arith) (omega arith) pl (within i il) (λ e. omega (arith, lt))).0 j)))
+    omega (
+      arith,
+      few,
+      fits_within (λ q. get_or order q 0) xs ns
+          (λ i j il jl e.
+          let same = ok.spread.apart (get_or xs i 0) (get_or xs j 0) (within i il) (within j jl) e in
+          elim (cases_lt i j) [
+            | inl before ↦ absurd (omega (arith, same, a.rising p i j 0 before jl))
+            | inr from ↦ elim (cases_eq i j) [ inl eq ↦ eq | inr ne ↦ absurd (omega (arith, same, a.rising p j i 0 (omega arith) il)) ]
+          ])
+          (λ i il.
+          let (lt, j) = neighbour i il in
+          (front.members (get_or order (get_or xs i 0) 0)).1 ((joined_after g order ok p p (get_or xs i 0) (omega arith) (omega arith) pl (within i il) (λ e. omega (arith, lt))).0 j)),
+    )
   where
     neighbour : (i : ℕ) → i < length (list_of later p) → IsLaterNeighbour (placed g order) p (get_or (list_of later p) i 0)
     neighbour i il = (a.members p (get_or (list_of later p) i 0) pl).0 (Contains-get_or (list_of later p) i 0 il)

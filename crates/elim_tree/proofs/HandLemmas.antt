@@ -9,7 +9,7 @@ use Rattle.elimination.specs.Elimination.{Joined, IsLaterNeighbour}
 use Rattle.elimination.proofs.JoinedLemmas.{later_from_linked, later_closed}
 use Rattle.elim_tree.specs.Tree.{AreLater}
 use Rattle.elim_tree.specs.Parts.{AreHigher, higher, HandsTo}
-use Rattle.elim_tree.proofs.HeadLemmas.{contains_none, head_none, head_parts, head_from, head_contained, head_least, same_head}
+use Rattle.elim_tree.proofs.HeadLemmas.{contains_none, head_none, head_from, head_contained, head_least, same_head}
 
 -- neighbours are linked, or are later neighbours of one place before
 pub joined_cases : (linked : ℕ → ℕ → Type 0) (t p q : ℕ) → Joined linked t p q → linked p q ⊎ ((c : ℕ) × (c < t) × IsLaterNeighbour linked c p × IsLaterNeighbour linked c q)
@@ -151,9 +151,10 @@ hands_on first p v new cur next h u head inserts others here =
             λ m. elim ((inserts.members r).0 (subst P here m)) [ inl old ↦ inl old | inr (has, above) ↦ inr (head, has, above) ],
             λ k. subst P (sym here) ((inserts.members r).1 (elim k [ inl old ↦ inl old | inr (_, has, above) ↦ inr (has, above) ])),
           ))
-      | inr apart ↦
-          (λ m. inl (subst P (others q apart) m),
-          λ k. elim k [ inl old ↦ subst P (sym (others q apart)) old | inr (other, _, _) ↦ absurd (apart (same_head (list_of cur p) q v other head)) ])
+      | inr apart ↦ (
+        λ m. inl (subst P (others q apart) m),
+        λ k. elim k [ inl old ↦ subst P (sym (others q apart)) old | inr (other, _, _) ↦ absurd (apart (same_head (list_of cur p) q v other head)) ],
+      )
     ])
 
 pub hands_all : (first cur : List (List ℕ)) (size : ℕ) → length cur ≡ length first → length first ≡ size → HandsUp first size cur → AreLater (higher first) size cur

@@ -1,15 +1,13 @@
 -- One tree for an order, and the fill within its rows.
-use Rattle.std.proofs.Common.{◌≡◌, ◌≢◌, ℕ, suc, ◌+◌, ◌-◌, ◌*◌, ◌/◌, ◌%◌, ◌^◌, cond, ap₂, ◌<◌, ◌≤◌, List, [], ◌∷◌, length, get_or, Contains, ◌⊎◌, inl, inr, ◌↔◌, ◌∙◌, sym, ap, arith, subst, refl, ℤ, pos, ◌-ℤ◌, ◌*ℤ◌}
+use Rattle.std.proofs.Common.{◌≡◌, ◌≢◌, ℕ, suc, ◌+◌, ◌*◌, ◌/◌, ◌%◌, ◌^◌, cond, ap₂, ◌<◌, List, [], ◌∷◌, length, get_or, Contains, inl, inr, ◌↔◌, ◌∙◌, sym, ap, arith, subst, ℤ, pos, ◌-ℤ◌, ◌*ℤ◌}
 use Rattle.std.proofs.lemmas.Bool.{cases_lt, cases_eq, ne_eqb}
 use Rattle.std.proofs.lemmas.List.{same_lists, get_or_default}
 use Rattle.lists.specs.Lists.{list_of}
-use Rattle.lists.specs.Listed.{listed}
 use Rattle.lists.proofs.UniqueLemmas.{rising_unique}
 use Rattle.cholesky_laws.specs.Recurrence.{cholesky, freedom_at, scaled}
 use Rattle.cholesky_laws.specs.Fill.{IsOnPattern}
 use Rattle.cholesky_laws.proofs.RecurrenceLemmas.{cholesky-above}
 use Rattle.cholesky_laws.proofs.FillLemmas.{no_fill}
-use Rattle.elimination.specs.Elimination.{IsLaterNeighbour}
 use Rattle.elim_order.specs.Graph.{links}
 use Rattle.elim_order.specs.Determined.{LinkAlike}
 use Rattle.elim_tree.specs.Fronts.{Fronts, rows_at, front_rows, entries_of}

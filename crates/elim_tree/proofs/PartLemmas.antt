@@ -1,10 +1,10 @@
 -- The parts of a tree, one after another.
-use Rattle.std.proofs.Common.{◌≡◌, ◌≢◌, ℕ, ◌+◌, ◌*◌, ◌<◌, ◌≤◌, List, [], ◌∷◌, ◌++◌, length, get_or, take, replicate, Contains, ◌⊎◌, inl, inr, ◌↔◌, ◌∙◌, sym, ap, arith, subst, refl, Option, Some, None, Vec, Global}
-use Rattle.std.proofs.lemmas.Bool.{cases_lt, cases_eq}
+use Rattle.std.proofs.Common.{◌≡◌, ℕ, ◌+◌, ◌<◌, List, [], ◌∷◌, ◌++◌, length, get_or, take, replicate, inl, inr, ◌∙◌, sym, ap, arith, subst, Option, Some, None, Vec, Global}
+use Rattle.std.proofs.lemmas.Bool.{cases_eq}
 use Rattle.std.proofs.lemmas.List.{take_more, map-append}
 use Rattle.std.proofs.lemmas.List.Sums.{sum_by_push}
 use Rattle.lists.specs.Rising.{IsRising}
-use Rattle.lists.specs.Lists.{contents, list_of, ListsNumber}
+use Rattle.lists.specs.Lists.{contents, ListsNumber}
 use Rattle.elim_tree.specs.Fronts.{front_entries, entries_of}
 use Rattle.elim_tree.specs.Parts.{ListsChildren}
 use Rattle.elim_tree.proofs.HeadLemmas.{empty_at, list_of-empty}

@@ -1,6 +1,6 @@
 -- The links of places are those of their nodes.
-use Rattle.std.proofs.Common.{◌≡◌, ◌≢◌, ℕ, zero, suc, ◌+◌, ◌<◌, ◌≤◌, min, max, List, [], ◌∷◌, ◌++◌, length, get_or, replicate, Contains, All, ◌⊎◌, inl, inr, ◌↔◌, ◌∙◌, sym, ap, arith, subst, refl}
-use Rattle.std.proofs.lemmas.Bool.{cases_lt, cases_eq}
+use Rattle.std.proofs.Common.{◌≡◌, ◌≢◌, ℕ, zero, suc, ◌<◌, ◌≤◌, min, max, List, [], ◌∷◌, ◌++◌, length, get_or, replicate, Contains, All, inl, inr, ◌↔◌, ◌∙◌, sym, ap, arith, subst, refl}
+use Rattle.std.proofs.lemmas.Bool.{cases_lt}
 use Rattle.std.proofs.lemmas.List.Elements.{Contains-append_left, Contains-push, Contains-push_cases, All-contains}
 use Rattle.std.proofs.lemmas.List.{get_or_default}
 use Rattle.lists.specs.Rising.{IsRising}
@@ -10,7 +10,7 @@ use Rattle.lists.proofs.PlaceLemmas.{place-found, place-at, places-read, length-
 use Rattle.elimination.specs.Elimination.{Joined, IsLaterNeighbour}
 use Rattle.elim_order.specs.Graph.{links}
 use Rattle.elim_tree.specs.Tree.{placed, AreLater}
-use Rattle.elim_tree.specs.Parts.{PairsPlaces, ListsHigher, AreHigher, higher}
+use Rattle.elim_tree.specs.Parts.{ListsHigher, AreHigher, higher}
 use Rattle.elim_tree.proofs.HeadLemmas.{list_of-empty}
 
 pub higher_none : (places : List ℕ) (lists : List (List ℕ)) → ((p : ℕ) → IsRising (list_of lists p)) → ListsHigher [] places lists lists
@@ -35,10 +35,18 @@ higher_more done n k places old cur new apart l step =
                     | inr (lt, (n', k', in', at)) ↦ inr (lt, (n', k', Contains-append_left done ((n, k) ∷ []) (n', k') in', at))
                   ]
               | inr (e, f) ↦
-                  inr (omega (arith, e, f, apart), (n, k, Contains-push done (n, k), elim (cases_lt (get_or places n 0) (get_or places k 0)) [
-                    | inl lt ↦ inl (omega (arith, e, lt), omega (arith, f, lt))
-                    | inr ge ↦ inr (omega (arith, f, ge), omega (arith, e, ge))
-                  ]))
+                  inr (
+                    omega (arith, e, f, apart),
+                    (
+                      n,
+                      k,
+                      Contains-push done (n, k),
+                      elim (cases_lt (get_or places n 0) (get_or places k 0)) [
+                        | inl lt ↦ inl (omega (arith, e, lt), omega (arith, f, lt))
+                        | inr ge ↦ inr (omega (arith, f, ge), omega (arith, e, ge))
+                      ],
+                    ),
+                  )
             ],
         λ h.
             (step.members p q).1
@@ -78,10 +86,13 @@ higher_is pairs order places first p q ok is within l lt = (
       ],
   λ (pl, ql, link).
       (l.members p q).1
-      (inr (lt, elim link [
-        | inl one ↦ (get_or order p 0, get_or order q 0, one, inl (there p pl, there q ql))
-        | inr other ↦ (get_or order q 0, get_or order p 0, other, inr (there q ql, there p pl))
-      ])),
+      (inr (
+        lt,
+        elim link [
+          | inl one ↦ (get_or order p 0, get_or order q 0, one, inl (there p pl, there q ql))
+          | inr other ↦ (get_or order q 0, get_or order p 0, other, inr (there q ql, there p pl))
+        ],
+      )),
 )
   where
     -- the place of a node holds it

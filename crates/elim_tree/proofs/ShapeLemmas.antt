@@ -1,18 +1,17 @@
 -- The tree of an order keeps what every tree keeps.
-use Rattle.std.proofs.Common.{◌≡◌, ◌≢◌, ℕ, ◌+◌, ◌<◌, ◌≤◌, List, [], ◌∷◌, length, get_or, Contains, ◌⊎◌, inl, inr, ◌↔◌, ◌∙◌, sym, ap, arith, subst, refl, Option, Some, None}
-use Rattle.std.specs.List.{slice_get}
+use Rattle.std.proofs.Common.{◌≡◌, ℕ, ◌<◌, ◌≤◌, List, [], length, get_or, Contains, inl, inr, ◌∙◌, sym, ap, arith, subst, refl, Option, Some, None}
 use Rattle.std.proofs.lemmas.Bool.{cases_lt, cases_eq}
 use Rattle.std.proofs.lemmas.List.{get_or_past}
 use Rattle.std.specs.Option.{IfSome}
 use Rattle.lists.specs.Lists.{list_of}
 use Rattle.lists.specs.Order.{IsOrder}
-use Rattle.elimination.specs.Elimination.{IsLaterNeighbour, IsParent, IsTree, AreParents, parent_of}
+use Rattle.elimination.specs.Elimination.{IsLaterNeighbour, IsParent, IsTree, AreParents}
 use Rattle.elimination.proofs.JoinedLemmas.{later_closed}
 use Rattle.elim_order.specs.Order.{IsNarrowAt}
 use Rattle.elim_tree.specs.Fronts.{Fronts, IsAssemblyTree, AreChildren, parent_in, parents_in, entries_of}
 use Rattle.elim_tree.specs.Tree.{placed, AreLater, IsTreeOf}
 use Rattle.elim_tree.specs.Parts.{fronts_of, ListsChildren}
-use Rattle.elim_tree.proofs.HeadLemmas.{contains_none, head_parts, head_contained, head_none, head_least, length-listed, listed_read}
+use Rattle.elim_tree.proofs.HeadLemmas.{contains_none, head_contained, head_none, head_least, length-listed, listed_read}
 use Rattle.elim_tree.proofs.FrontLemmas.{joined_in_range, later_narrow}
 
 -- past the last place there is nothing

@@ -1,5 +1,5 @@
 -- An assembly tree: the fronts of an elimination, one for each node. A front's number is its node's place in the order.
-use Rattle.std.specs.Prelude.{◌≡◌, ℕ, ◌+◌, ◌*◌, ◌<◌, ◌≤◌, List, ◌∷◌, length, slice_get, slice_index, Contains, Option, Some, ◌⊎◌, ◌↔◌}
+use Rattle.std.specs.Prelude.{◌≡◌, ℕ, ◌+◌, ◌*◌, ◌<◌, ◌≤◌, List, ◌∷◌, length, slice_get, Contains, Option, Some, ◌⊎◌, ◌↔◌}
 use Rattle.std.specs.List.{sum_by}
 use Rattle.lists.specs.Rising.{IsRising}
 use Rattle.lists.specs.Lists.{list_of}

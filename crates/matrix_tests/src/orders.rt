@@ -1,5 +1,5 @@
 //! Elimination orders and assembly trees, worked by hand.
-ghost use Rattle.std.specs.Prelude.{◌≢◌, ◌<◌, ◌≤◌, All};
+ghost use Rattle.std.specs.Prelude.{◌≢◌, ◌<◌, ◌≤◌, All, IsTrue};
 
 use elim_order::{OrderFault, order};
 use elim_tree::{Tree, TreeFault, tree};
@@ -7,18 +7,31 @@ use std::alloc::{AllocError, Global};
 use std::process::Abort;
 use std::test::Fail;
 
-// The pairs join two nodes each.
-fn check_pairs(rt: &impl Abort, nodes: u32, pairs: &[(u32, u32)])
-    ensures few { nodes ≤ 8000 }
-    ensures in_range { All (λ p. (p.0 < nodes) × (p.1 < nodes)) pairs.now }
-    ensures apart { All (λ p. p.0 ≢ p.1) pairs.now }
+// Whether a pair joins two nodes.
+fn joins(nodes: u32, n: u32, k: u32) -> bool
+    ensures first { IsTrue result → n < nodes }
+    ensures second { IsTrue result → k < nodes }
+    ensures apart { IsTrue result → n ≢ k }
 {
-    assert!(rt; nodes <= 8000);
-    for pair in pairs {
-        assert!(rt; pair.0 < nodes);
-        assert!(rt; pair.1 < nodes);
-        assert!(rt; pair.0 != pair.1);
+    if n < nodes {
+        if k < nodes { n != k } else { false }
+    } else {
+        false
     }
+}
+
+// Whether each pair joins two of the nodes.
+fn are_pairs(nodes: u32, pairs: &[(u32, u32)]) -> bool
+    ensures few { IsTrue result → nodes ≤ 8000 }
+    ensures in_range { IsTrue result → All (λ p. (p.0 < nodes) × (p.1 < nodes)) pairs.now }
+    ensures apart { IsTrue result → All (λ p. p.0 ≢ p.1) pairs.now }
+{
+    for pair in pairs {
+        if !joins(nodes, pair.0, pair.1) {
+            return false;
+        }
+    }
+    nodes <= 8000
 }
 
 // The order of the pairs' graph.
@@ -28,7 +41,7 @@ fn ordered(
     nodes: u32,
     pairs: &[(u32, u32)],
 ) -> Result<Vec<u32>, OrderFault> {
-    check_pairs(rt, nodes, pairs);
+    assert!(rt; are_pairs(nodes, pairs));
     order(alloc, nodes, pairs)
 }
 
@@ -39,7 +52,7 @@ fn tree_of(
     nodes: u32,
     pairs: &[(u32, u32)],
 ) -> Result<Result<Tree, TreeFault>, OrderFault> {
-    check_pairs(rt, nodes, pairs);
+    assert!(rt; are_pairs(nodes, pairs));
     let order = order(alloc, nodes, pairs)?;
     Ok(tree(alloc, &order, pairs))
 }
@@ -141,8 +154,14 @@ fn tree_of_a_line(rt: HostRuntime) -> Result<(), Fail> {
         assert_eq!(rt; tree.later(front), later);
         assert_eq!(rt; tree.children(front), children);
     }
-    assert_eq!(rt; tree.rows(0), [0, 1, 2, 3, 4, 5, 12, 13, 14, 15, 16, 17].as_slice());
-    assert_eq!(rt; tree.node_parents(), [Some(2), Some(2), Some(3), None].as_slice());
+    assert_eq!(rt;
+        tree.rows(0),
+        [0, 1, 2, 3, 4, 5, 12, 13, 14, 15, 16, 17].as_slice()
+    );
+    assert_eq!(rt;
+        tree.node_parents(),
+        [Some(2), Some(2), Some(3), None].as_slice()
+    );
     assert_eq!(rt; tree.entries(), 144 + 324 + 144 + 36);
     Ok(())
 }
@@ -151,7 +170,10 @@ fn tree_of_a_line(rt: HostRuntime) -> Result<(), Fail> {
 #[test]
 fn entries_are_limited(rt: HostRuntime) -> Result<(), Fail> {
     let most = groups(rt.alloc(), 81, 32)?;
-    assert_eq!(rt; tree_of(&rt, rt.alloc(), 2592, &most)??.entries(), 33_359_040);
+    assert_eq!(rt;
+        tree_of(&rt, rt.alloc(), 2592, &most)??.entries(),
+        33_359_040
+    );
     let over = groups(rt.alloc(), 82, 32)?;
     match tree_of(&rt, rt.alloc(), 2624, &over)? {
         Err(TreeFault::Entries) => {}

@@ -1,6 +1,5 @@
-use Rattle.std.proofs.Common.{[], ◌∷◌, ◌++◌, ℕ, List, take, get_or, arith, subst}
+use Rattle.std.proofs.Common.{take, get_or, arith}
 use Rattle.std.proofs.lemmas.List.{take_more}
-use Rattle.elim_order.specs.State.{Joins}
 use Rattle.elim_order.proofs.JoinLemmas.{joins_none, joins_more, joins_skip}
 use Rattle.elim_order.proofs.graph.join.Goals as goal
 use Rattle.elim_order.proofs.graph.join.Goals.{then-node-own+in_ok-insert_rising, else-node-own}

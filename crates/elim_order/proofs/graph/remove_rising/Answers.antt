@@ -1,9 +1,8 @@
-use Rattle.std.proofs.Common.{Ok, Err, length, ◌<◌, ◌≡◌, ◌≢◌, ◌∙◌, sym, ap, get_or, ℕ, Contains, subst}
+use Rattle.std.proofs.Common.{Ok, Err, ◌<◌, ℕ, Contains, subst}
 use Rattle.std.proofs.lemmas.List.Quantifiers.{all_pairs_remove}
 use Rattle.lists.proofs.RisingLemmas.{place_found}
 use Rattle.elim_order.proofs.ListLemmas.{Contains-remove}
 use Rattle.elim_order.proofs.graph.remove_rising.Goals as goal
-
 
 pub returns-in-Ok-clause-rising : goal.returns-in-Ok-clause-rising
 returns-in-Ok-clause-rising c =

@@ -1,4 +1,4 @@
-use Rattle.std.proofs.Common.{ℕ, get_or, take, arith}
+use Rattle.std.proofs.Common.{get_or, take, arith}
 use Rattle.std.proofs.lemmas.List.{take_more}
 use Rattle.elim_order.proofs.TakeLemmas.{before_place}
 use Rattle.elim_order.proofs.MarkLemmas.{marks_more}

@@ -1,4 +1,4 @@
-use Rattle.std.proofs.Common.{◌≡◌, ◌<◌, ◌≤◌, ◌+◌, ℕ, List, [], ◌∷◌, ◌++◌, Vec, Global, length, get_or, take, Contains, ◌∙◌, sym, ap, subst, arith}
+use Rattle.std.proofs.Common.{◌≡◌, ◌<◌, ℕ, List, length, get_or, take, Contains, ◌∙◌, ap, subst, arith}
 use Rattle.std.proofs.lemmas.List.{take_more}
 use Rattle.std.proofs.lemmas.List.Elements.{Contains-get_or}
 use Rattle.lists.specs.Lists.{contents, list_of}
@@ -56,5 +56,5 @@ loop-node-preserved c =
     let front : c.deref.result.now ≡ list_of (contents vs) node = c.deref.ensures.value ∙ c.in_ok-front.ensures.front in
     let P : List ℕ → Type 0 = λ xs. Queues (contents new) xs (contents c.loop-node.queue) (contents c.enqueue.new.queue) in
     rw (take_more round i 0 (omega arith))
-      (round_more (take i round) node (contents old) (contents vs) (contents new) (contents c.args.queue.now) (contents c.loop-node.queue) (contents c.enqueue.new.queue) count' count c.loop-node.invariant c.in_ok-front.ensures.lists (subst P front c.in_ok-enqueue.ensures)
-      (omega (arith, ap (λ (xs : List ℕ). length xs) is, (get_or vs node c.index-neighbours-node.result).ok.0, c.len.ensures, c.if-len-gt-BREADTH.false)))
+    (round_more (take i round) node (contents old) (contents vs) (contents new) (contents c.args.queue.now) (contents c.loop-node.queue) (contents c.enqueue.new.queue) count' count c.loop-node.invariant c.in_ok-front.ensures.lists (subst P front c.in_ok-enqueue.ensures)
+    (omega (arith, ap (λ (xs : List ℕ). length xs) is, (get_or vs node c.index-neighbours-node.result).ok.0, c.len.ensures, c.if-len-gt-BREADTH.false)))

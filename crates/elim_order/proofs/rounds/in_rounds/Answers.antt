@@ -1,4 +1,4 @@
-use Rattle.std.proofs.Common.{◌≡◌, ◌<◌, ◌+◌, ℕ, List, [], ◌∷◌, ◌++◌, Bool, true, length, get_or, replicate, Contains, ◌∙◌, sym, ap, subst, arith}
+use Rattle.std.proofs.Common.{◌≡◌, ◌<◌, ◌+◌, ℕ, List, [], ◌++◌, true, length, get_or, replicate, Contains, ◌∙◌, sym, ap, subst, arith}
 use Rattle.std.proofs.lemmas.List.{length-replicate}
 use Rattle.std.proofs.lemmas.Result.{err_from_is_err_and}
 use Rattle.std.proofs.lemmas.List.Elements.{Contains-get_or}
@@ -113,7 +113,7 @@ mark-requires-clause-left c k d lt' =
     let T : List ℕ → Type 0 = λ xs. TakesApart (contents c.loop-order.neighbours) xs c.in_ok-round.round.items in
     let takes = subst T is c.in_ok-round.ensures in
     let N : List ℕ → Type 0 = λ xs. (k d : ℕ) → k < length xs → is_left c.loop-order.left (get_or xs k d) ≡ true in
-    subst N (sym c.deref-in-Some-3.ensures.value) (taken_left (contents c.loop-order.neighbours) c.loop-order.left (contents vs) key c.in_ok-round.round.items least takes) k d lt' 
+    subst N (sym c.deref-in-Some-3.ensures.value) (taken_left (contents c.loop-order.neighbours) c.loop-order.left (contents vs) key c.in_ok-round.round.items least takes) k d lt'
 
 pub loop-order-smaller : goal.loop-order-smaller
 loop-order-smaller c =

@@ -1,4 +1,4 @@
-use Rattle.std.proofs.Common.{◌≡◌, ℕ, get_or, Contains, ◌∙◌, sym, subst, arith, below_more, Option, Some, None, Bool, false, true}
+use Rattle.std.proofs.Common.{◌≡◌, ℕ, Contains, ◌∙◌, sym, subst, arith, below_more, Option, Some, None, false}
 use Rattle.std.specs.Option.{MatchOption, is_some}
 use Rattle.std.proofs.lemmas.List.{get_or_default}
 use Rattle.elim_order.proofs.rounds.meets.Goals as goal

@@ -1,8 +1,8 @@
-use Rattle.std.proofs.Common.{◌≡◌, ◌<◌, ◌≤◌, ℕ, List, Vec, Global, length, ◌∙◌, sym, ap, subst, arith}
+use Rattle.std.proofs.Common.{◌≡◌, ◌≤◌, ℕ, List, Vec, Global, length, ◌∙◌, sym, ap, subst, arith}
 use Rattle.lists.specs.Lists.{contents, list_of}
 use Rattle.elim_order.specs.Graph.{links}
-use Rattle.elim_tree.specs.Fronts.{Fronts, IsAssemblyTree, entries_of}
-use Rattle.elim_tree.specs.Tree.{placed, AreLater, IsTreeOf}
+use Rattle.elim_tree.specs.Fronts.{IsAssemblyTree, entries_of}
+use Rattle.elim_tree.specs.Tree.{placed, AreLater}
 use Rattle.elim_tree.specs.Parts.{fronts_of}
 use Rattle.elim_tree.proofs.ShapeLemmas.{all_narrow, tree_shape, tree_is}
 use Rattle.elim_tree.proofs.build.tree.Goals as goal

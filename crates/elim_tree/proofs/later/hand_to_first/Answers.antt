@@ -1,5 +1,4 @@
-use Rattle.std.proofs.Common.{◌≡◌, ◌≢◌, ◌<◌, ℕ, List, [], Option, Some, Vec, Global, length, get_or, set, Contains, ◌∙◌, sym, ap, subst, arith}
-use Rattle.std.specs.List.{slice_get}
+use Rattle.std.proofs.Common.{◌≡◌, ◌<◌, ℕ, List, [], Option, Some, Vec, Global, length, get_or, set, ◌∙◌, sym, ap, subst, arith}
 use Rattle.std.specs.Result.{OnOk}
 use Rattle.std.proofs.lemmas.Result.{on_ok_weaker}
 use Rattle.std.proofs.lemmas.List.{map-set, get_or-set_same, get_or-set_other}
@@ -24,9 +23,10 @@ written vs own v d new lt inserts =
     let whole = map-set (λ (w : Vec ℕ Global). w.items) vs v new in
     let here : list_of (contents (set vs v new)) v ≡ new.items = ap (λ (ls : List (List ℕ)). list_of ls v) whole ∙ get_or-set_same (contents vs) v new.items [] (omega (arith, length-contents vs)) in
     let P : List ℕ → Type 0 = λ xs. InsertsLater xs new.items own v in
-    let Q : List ℕ → Type 0 = λ xs. InsertsLater (list_of (contents vs) v) xs own v in
-    (subst Q (sym here) (subst P (sym (list_at vs v d lt)) inserts),
-    λ c ne. ap (λ (ls : List (List ℕ)). list_of ls c) whole ∙ get_or-set_other (contents vs) v c new.items [] ne)
+    let Q : List ℕ → Type 0 = λ xs. InsertsLater (list_of (contents vs) v) xs own v in (
+      subst Q (sym here) (subst P (sym (list_at vs v d lt)) inserts),
+      λ c ne. ap (λ (ls : List (List ℕ)). list_of ls c) whole ∙ get_or-set_other (contents vs) v c new.items [] ne,
+    )
 
 pub returns-in-Some : goal.returns-in-Some
 returns-in-Some c =

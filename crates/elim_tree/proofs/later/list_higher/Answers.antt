@@ -1,4 +1,4 @@
-use Rattle.std.proofs.Common.{ℕ, min, max, take, get_or, arith, subst}
+use Rattle.std.proofs.Common.{ℕ, min, take, get_or, arith, subst}
 use Rattle.std.proofs.lemmas.List.{take_more}
 use Rattle.lists.specs.Lists.{contents, ListsNumber}
 use Rattle.elim_tree.proofs.PlacedLemmas.{higher_none, higher_more}

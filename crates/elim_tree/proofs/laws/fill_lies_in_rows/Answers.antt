@@ -1,8 +1,6 @@
 use Rattle.elim_order.specs.Graph.{links}
 use Rattle.elim_tree.specs.Tree.{placed}
-use Rattle.elim_tree.proofs.ShapeLemmas.{parents_are, tree_shape, parents_above}
-use Rattle.elim_tree.proofs.HandLemmas.{hands_turn}
-use Rattle.elim_tree.proofs.PlacedLemmas.{higher_more}
+use Rattle.elim_tree.proofs.ShapeLemmas.{parents_are}
 use Rattle.elim_tree.proofs.LawLemmas.{fill_in_rows, stiffness_on_pattern}
 use Rattle.elim_tree.proofs.laws.fill_lies_in_rows.Goals as goal
 

@@ -1,5 +1,4 @@
-use Rattle.std.proofs.Common.{◌≡◌, ◌≤◌, ◌^◌, ◌<◌, ◌+◌, ◌∙◌, ℕ, List, Vec, Global, length, get_or, ap, sym, subst, arith}
-use Rattle.lists.specs.Lists.{contents, list_of}
+use Rattle.std.proofs.Common.{◌≡◌, ◌∙◌, ℕ, List, length, ap, arith}
 use Rattle.lists.proofs.ListsLemmas.{contents-read}
 use Rattle.elim_tree.specs.Fronts.{front_entries}
 use Rattle.elim_tree.proofs.PartLemmas.{entries_more}

@@ -1,4 +1,4 @@
-use Rattle.std.proofs.Common.{◌≡◌, ℕ, length, arith, subst}
+use Rattle.std.proofs.Common.{length}
 use Rattle.lists.specs.Lists.{contents}
 use Rattle.elim_tree.proofs.PartLemmas.{children_none, children_more, children_skip}
 use Rattle.elim_tree.proofs.parts.list_children.Goals as goal

@@ -1,4 +1,4 @@
-use Rattle.std.proofs.Common.{◌≡◌, ◌∷◌, [], ◌++◌, ◌∙◌, ℕ, List, Option, length, ap, sym, subst, arith}
+use Rattle.std.proofs.Common.{◌≡◌, ◌∷◌, [], ◌++◌, ◌∙◌, ℕ, List, Option, length, ap, sym, arith}
 use Rattle.std.specs.List.{slice_get}
 use Rattle.lists.specs.Lists.{contents, list_of}
 use Rattle.lists.proofs.ListsLemmas.{contents-read}

@@ -1,9 +1,9 @@
-use Rattle.std.proofs.Common.{◌≡◌, ◌<◌, ◌≤◌, ◌∷◌, ℕ, List, Option, Vec, Global, length, Contains, ◌∙◌, sym, ap, subst, arith}
+use Rattle.std.proofs.Common.{◌≡◌, ◌∷◌, ℕ, List, Option, Vec, Global, length, Contains, ◌∙◌, ap, subst, arith}
 use Rattle.std.specs.List.{slice_get}
 use Rattle.lists.specs.Lists.{contents, list_of}
 use Rattle.lists.specs.Listed.{listed}
 use Rattle.lists.proofs.ListsLemmas.{length-contents}
-use Rattle.elim_tree.specs.Fronts.{Fronts, IsAssemblyTree, parents_in, front_rows, rows_at}
+use Rattle.elim_tree.specs.Fronts.{IsAssemblyTree, parents_in, front_rows, rows_at}
 use Rattle.elim_tree.specs.Parts.{fronts_of, ListsChildren}
 use Rattle.elim_tree.proofs.HeadLemmas.{length-listed}
 use Rattle.elim_tree.proofs.ShapeLemmas.{children_are, parent_in_range}

@@ -1,5 +1,5 @@
 use Rattle.std.proofs.Common.{◌≢◌, ◌<◌, take, All}
-use Rattle.matrix_tests.proofs.orders.check_pairs.Given as goal
+use Rattle.matrix_tests.proofs.orders.are_pairs.Given as goal
 
 abbrev pub invariant-loop-pair : goal.invariant-loop-pair
 invariant-loop-pair l = record {
