@@ -2,6 +2,8 @@
 #![tactic(auto)]
 
 #[cfg(test)]
+mod bends;
+#[cfg(test)]
 mod cases;
 #[cfg(test)]
 mod factors;

@@ -1,0 +1,265 @@
+//! The members of quarter bends and of a half circle. The numbers were computed outside the program, in exact whole numbers by
+//! the same rules; a bar's flexibility integrated section by section along the arc agrees with them to seven digits.
+ghost use Rattle.bend_element.specs.Arcs.{IsArc};
+ghost use Rattle.member_pairs.specs.Vectors.{IsWay};
+
+use bend_element::{Arc, bend_members};
+use flex_interval::Iv;
+use member_pairs::{Tube, Way};
+use model_types::{Element, ElementId, NodeId, SectionId, Shape};
+use std::process::Abort;
+use text_words::Name;
+
+const ONE: i128 = 1 << 56;
+
+const NOTHING: Iv = Iv { lo: 0, hi: 0 };
+
+// Stiffnesses, and the rotations of the member of the force across the plane, at FROM and at TO.
+struct Wanted {
+    kappas: [Iv; 6],
+    rotations: [Iv; 6],
+}
+
+// A pipe of 168.3 mm by 7.11 mm, with E of 200,000 MPa and a Poisson's ratio of 0.3.
+fn check(rt: &impl Abort, arc: &Arc, way: &Way, normal: &[Iv; 3], wanted: &Wanted)
+    requires arc { IsArc arc.now }
+    requires way { IsWay way.now }
+{
+    let tube = Tube {
+        modulus: 200_000,
+        poisson_ratio: 300,
+        square_difference: 4_584_243_600,
+        square_sum: 52_065_536_400,
+    };
+    let bend = Element {
+        name: Name::new(b"b").expect(rt, "a name"),
+        from: NodeId(3),
+        to: NodeId(5),
+        section: SectionId(0),
+        shape: Shape::Straight,
+    };
+    let members = bend_members(&bend, &tube, arc, way, normal).expect(rt, "a bend");
+    for number in 0..6 {
+        let member = &members[number];
+        assert!(rt; member.n1 == 3 && member.n2 == 5);
+        assert!(rt; member.kappa == wanted.kappas[number]);
+    }
+    for part in 0..3 {
+        assert!(rt; members[5].w[3 + part] == wanted.rotations[part]);
+        assert!(rt; members[5].w[9 + part] == wanted.rotations[3 + part]);
+    }
+}
+
+// A radius of 229 mm in the plane of x and y, with this flexibility factor.
+fn quarter(k: Iv) -> Arc
+    ensures { IsArc result }
+{
+    Arc {
+        radius: 229_000,
+        a: Iv {
+            lo: 56_593_902_016_227_522,
+            hi: 56_593_902_016_227_523,
+        },
+        sin: Iv {
+            lo: 50_952_413_380_206_180,
+            hi: 50_952_413_380_206_181,
+        },
+        cos: Iv {
+            lo: 50_952_413_380_206_180,
+            hi: 50_952_413_380_206_181,
+        },
+        k,
+    }
+}
+
+#[test]
+fn bends(rt: HostRuntime) {
+    let way = Way {
+        x: 229_000,
+        y: 229_000,
+        z: 0,
+    };
+    let down = Iv { lo: -ONE, hi: -ONE };
+    let normal = [NOTHING, NOTHING, down];
+    let stiff = Iv { lo: ONE, hi: ONE };
+    check(&rt, &quarter(stiff), &way, &normal, &STIFF_QUARTER);
+    let flexible = Iv {
+        lo: 474_323_691_783_544_937,
+        hi: 474_323_691_783_544_938,
+    };
+    check(&rt, &quarter(flexible), &way, &normal, &QUARTER);
+}
+
+#[test]
+fn half_circle(rt: HostRuntime) {
+    let way = Way {
+        x: 0,
+        y: 0,
+        z: 1_000_000,
+    };
+    let across = Iv { lo: ONE, hi: ONE };
+    let arc = Arc {
+        radius: 500_000,
+        a: Iv {
+            lo: 113_187_804_032_455_044,
+            hi: 113_187_804_032_455_045,
+        },
+        sin: Iv { lo: ONE, hi: ONE },
+        cos: NOTHING,
+        k: Iv {
+            lo: 217_240_250_836_863_581,
+            hi: 217_240_250_836_863_582,
+        },
+    };
+    check(&rt, &arc, &way, &[NOTHING, across, NOTHING], &HALF_CIRCLE);
+}
+
+// The factor k is 1.
+const STIFF_QUARTER: Wanted = Wanted {
+    kappas: [
+        Iv {
+            lo: 6_830_657_075_166,
+            hi: 6_830_657_075_168,
+        },
+        Iv {
+            lo: 675_016_251_059_838,
+            hi: 675_016_251_059_903,
+        },
+        Iv {
+            lo: 2_225_858_510_022_280,
+            hi: 2_225_858_510_022_514,
+        },
+        Iv {
+            lo: 6_477_583_225_137,
+            hi: 6_477_583_225_139,
+        },
+        Iv {
+            lo: 5_484_300_002_028,
+            hi: 5_484_300_002_030,
+        },
+        Iv {
+            lo: 650_800_767_891_658,
+            hi: 650_800_767_891_721,
+        },
+    ],
+    rotations: [
+        Iv {
+            lo: 5_536_471_815_430_591,
+            hi: 5_536_471_815_430_596,
+        },
+        Iv {
+            lo: -10_964_717_219_254_907,
+            hi: -10_964_717_219_254_902,
+        },
+        Iv { lo: 0, hi: 0 },
+        Iv {
+            lo: 10_964_717_219_254_902,
+            hi: 10_964_717_219_254_907,
+        },
+        Iv {
+            lo: -5_536_471_815_430_596,
+            hi: -5_536_471_815_430_591,
+        },
+        Iv { lo: 0, hi: 0 },
+    ],
+};
+
+// The factor k is 6.582563.
+const QUARTER: Wanted = Wanted {
+    kappas: [
+        Iv {
+            lo: 1_037_689_499_935,
+            hi: 1_037_689_499_937,
+        },
+        Iv {
+            lo: 107_892_269_676_078,
+            hi: 107_892_269_676_089,
+        },
+        Iv {
+            lo: 1_280_390_905_149_576,
+            hi: 1_280_390_905_149_711,
+        },
+        Iv {
+            lo: 1_214_819_785_725,
+            hi: 1_214_819_785_726,
+        },
+        Iv {
+            lo: 3_022_696_077_381,
+            hi: 3_022_696_077_382,
+        },
+        Iv {
+            lo: 187_737_538_162_367,
+            hi: 187_737_538_162_386,
+        },
+    ],
+    rotations: [
+        Iv {
+            lo: 10_457_936_893_851_628,
+            hi: 10_457_936_893_851_633,
+        },
+        Iv {
+            lo: -6_043_252_140_833_870,
+            hi: -6_043_252_140_833_865,
+        },
+        Iv { lo: 0, hi: 0 },
+        Iv {
+            lo: 6_043_252_140_833_865,
+            hi: 6_043_252_140_833_870,
+        },
+        Iv {
+            lo: -10_457_936_893_851_633,
+            hi: -10_457_936_893_851_628,
+        },
+        Iv { lo: 0, hi: 0 },
+    ],
+};
+
+// The factor k is 3.014814.
+const HALF_CIRCLE: Wanted = Wanted {
+    kappas: [
+        Iv {
+            lo: 518_844_749_967,
+            hi: 518_844_749_969,
+        },
+        Iv {
+            lo: 4_132_914_246_390,
+            hi: 4_132_914_246_392,
+        },
+        Iv {
+            lo: 21_423_487_608_635,
+            hi: 21_423_487_608_641,
+        },
+        Iv {
+            lo: 725_046_517_580,
+            hi: 725_046_517_582,
+        },
+        Iv {
+            lo: 725_046_517_580,
+            hi: 725_046_517_582,
+        },
+        Iv {
+            lo: 6_368_190_802_761,
+            hi: 6_368_190_802_764,
+        },
+    ],
+    rotations: [
+        Iv {
+            lo: 36_028_797_018_963_968,
+            hi: 36_028_797_018_963_968,
+        },
+        Iv { lo: 0, hi: 0 },
+        Iv {
+            lo: -13_821_053_330_358_575,
+            hi: -13_821_053_330_358_574,
+        },
+        Iv {
+            lo: 36_028_797_018_963_968,
+            hi: 36_028_797_018_963_968,
+        },
+        Iv { lo: 0, hi: 0 },
+        Iv {
+            lo: 13_821_053_330_358_574,
+            hi: 13_821_053_330_358_575,
+        },
+    ],
+};
