@@ -1,7 +1,8 @@
 ghost use Rattle.std.specs.Prelude.{◌≤◌, IfOk};
 
 use flex_io::{
-    Gate, Idle, SafeSink, SafeSource, Status, StdSink, StdSource, TakeFault, code, put_all, take_all,
+    Gate, Idle, SafeSink, SafeSource, Status, StdSink, StdSource, TakeFault, code, put_all,
+    take_all,
 };
 use std::alloc::Global;
 use std::io;
@@ -57,6 +58,7 @@ impl Write for Script {
 }
 
 const INTERRUPTED: Turn = Turn::Breaks(ErrorKind::Interrupted);
+
 const BROKEN: Turn = Turn::Breaks(ErrorKind::Other);
 
 fn scripted(turns: [Turn; 4]) -> Script {
@@ -103,13 +105,28 @@ fn reads_from_standard_readers(rt: HostRuntime) -> Result<(), Fail> {
 
     // What a text has that is read to its end, and one that is read after it. `None` is a read fault.
     for (turns, first, second) in [
-        ([INTERRUPTED, Turn::Bytes(3), Turn::Bytes(1), INTERRUPTED], Some(4), Some(0)),
-        ([INTERRUPTED, INTERRUPTED, Turn::Bytes(0), Turn::Bytes(2)], Some(0), Some(2)),
-        ([INTERRUPTED, BROKEN, Turn::Bytes(2), INTERRUPTED], None, Some(2)),
+        (
+            [INTERRUPTED, Turn::Bytes(3), Turn::Bytes(1), INTERRUPTED],
+            Some(4),
+            Some(0),
+        ),
+        (
+            [INTERRUPTED, INTERRUPTED, Turn::Bytes(0), Turn::Bytes(2)],
+            Some(0),
+            Some(2),
+        ),
+        (
+            [INTERRUPTED, BROKEN, Turn::Bytes(2), INTERRUPTED],
+            None,
+            Some(2),
+        ),
         ([Turn::Bytes(3), BROKEN, Turn::Bytes(1), BROKEN], None, None),
     ] {
         let mut source = StdSource::new(scripted(turns));
-        let found = (taken(rt.alloc(), &mut source), taken(rt.alloc(), &mut source));
+        let found = (
+            taken(rt.alloc(), &mut source),
+            taken(rt.alloc(), &mut source),
+        );
         assert!(rt; found == (first, second));
     }
     Ok(())
@@ -134,14 +151,42 @@ fn writes_to_standard_writers(rt: HostRuntime) -> Result<(), Fail> {
 
     // Whether a piece of four bytes is put, and one that is put after it.
     for (turns, first, second) in [
-        ([INTERRUPTED, Turn::Bytes(3), Turn::Bytes(1), INTERRUPTED], true, false),
-        ([BROKEN, INTERRUPTED, Turn::Bytes(4), Turn::Bytes(4)], false, true),
-        ([Turn::Bytes(3), BROKEN, Turn::Bytes(4), Turn::Bytes(4)], false, true),
-        ([Turn::Bytes(0), Turn::Bytes(4), Turn::Bytes(4), Turn::Bytes(4)], false, true),
-        ([Turn::Bytes(3), Turn::Bytes(0), BROKEN, Turn::Bytes(4)], false, false),
+        (
+            [INTERRUPTED, Turn::Bytes(3), Turn::Bytes(1), INTERRUPTED],
+            true,
+            false,
+        ),
+        (
+            [BROKEN, INTERRUPTED, Turn::Bytes(4), Turn::Bytes(4)],
+            false,
+            true,
+        ),
+        (
+            [Turn::Bytes(3), BROKEN, Turn::Bytes(4), Turn::Bytes(4)],
+            false,
+            true,
+        ),
+        (
+            [
+                Turn::Bytes(0),
+                Turn::Bytes(4),
+                Turn::Bytes(4),
+                Turn::Bytes(4),
+            ],
+            false,
+            true,
+        ),
+        (
+            [Turn::Bytes(3), Turn::Bytes(0), BROKEN, Turn::Bytes(4)],
+            false,
+            false,
+        ),
     ] {
         let mut sink = StdSink::new(scripted(turns));
-        let found = (put_all(&mut sink, b"four").is_ok(), put_all(&mut sink, b"more").is_ok());
+        let found = (
+            put_all(&mut sink, b"four").is_ok(),
+            put_all(&mut sink, b"more").is_ok(),
+        );
         assert!(rt; found == (first, second));
     }
     Ok(())

@@ -149,7 +149,8 @@ fn ends<R: Threads + Sync + Abort, S: Source>(
     let mut err = SafeSink::new(alloc, message.len())?;
     let found = run(rt, alloc, line, source, &mut out, &mut err, &Idle);
     assert!(rt;
-        (code(found), out.bytes(), err.bytes()) == (code(status), told.as_bytes(), message.as_bytes()),
+        (code(found), out.bytes(), err.bytes())
+            == (code(status), told.as_bytes(), message.as_bytes()),
         "{told}{message}"
     );
     Ok(())
