@@ -4,7 +4,7 @@ use std::alloc::AllocError;
 use thiserror::Error;
 
 /// Why there is no stiffness matrix.
-#[derive(Clone, Copy, Debug, PartialEq, Eq, Error)]
+#[derive(Clone, Copy, Debug, Error)]
 pub enum AssembleFault {
     /// An entry of the row reaches 2^60 in size, in units of 2^-20 N/m, or has no enclosure.
     #[error("row {row} of the stiffness matrix leaves its limit")]

@@ -19,7 +19,7 @@ use factor_data::Factor;
 use sym_blocks::SymBlocks;
 
 /// Whether the test shows that a matrix is positive definite.
-#[derive(Clone, Copy, Debug, PartialEq, Eq)]
+#[derive(Clone, Copy, PartialEq, Eq)]
 pub enum Verdict {
     /// No matrix within the radii has an eigenvalue below `lambda`, which is 1 or more.
     Yes { lambda: i128 },

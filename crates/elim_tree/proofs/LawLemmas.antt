@@ -4,7 +4,8 @@ use Rattle.std.proofs.lemmas.Bool.{cases_lt, cases_eq, ne_eqb}
 use Rattle.std.proofs.lemmas.List.{same_lists, get_or_default}
 use Rattle.lists.specs.Lists.{list_of}
 use Rattle.lists.proofs.UniqueLemmas.{rising_unique}
-use Rattle.cholesky_laws.specs.Recurrence.{cholesky, freedom_at, scaled}
+use Rattle.cholesky_laws.specs.Recurrence.{cholesky, scaled}
+use Rattle.lists.specs.Rows.{freedom_at}
 use Rattle.cholesky_laws.specs.Fill.{IsOnPattern}
 use Rattle.cholesky_laws.proofs.RecurrenceLemmas.{cholesky-above}
 use Rattle.cholesky_laws.proofs.FillLemmas.{no_fill}

@@ -5,7 +5,7 @@ use Rattle.lists.specs.Rising.{IsRising}
 use Rattle.lists.specs.Lists.{list_of}
 use Rattle.lists.specs.Listed.{listed}
 use Rattle.lists.specs.Order.{IsOrder}
-use Rattle.cholesky_laws.specs.Recurrence.{freedom_at}
+use Rattle.lists.specs.Rows.{freedom_at}
 
 -- a tree as contracts see it: the node of each front, and the later places of each, which are those of its other nodes
 pub record Fronts : Type 0 where

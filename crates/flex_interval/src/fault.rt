@@ -14,7 +14,7 @@ pub enum IvFault {
 }
 
 /// An enclosure that leaves its limit, or has none.
-#[derive(Clone, Copy, Debug, PartialEq, Eq, Error)]
+#[derive(Clone, Copy, Debug, Error)]
 #[error("an enclosure leaves its limit")]
 pub struct Wide;
 

@@ -6,7 +6,7 @@ ghost use Rattle.flex_interval.specs.Operations.{point_of};
 use std::marker::Model;
 
 /// An interval of whole numbers, `lo` to `hi`. Both ends are below 2^126 in size.
-#[derive(Clone, Copy, Debug, PartialEq, Eq)]
+#[derive(Clone, Copy, PartialEq, Eq)]
 pub struct Iv {
     pub lo: i128,
     pub hi: i128,

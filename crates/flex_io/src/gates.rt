@@ -6,7 +6,7 @@ pub trait Gate: Sync {
 }
 
 /// The gate that does nothing.
-#[derive(Clone, Copy)]
+#[derive(Drop)]
 pub struct Idle;
 
 impl Gate for Idle {

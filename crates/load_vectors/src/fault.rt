@@ -2,7 +2,7 @@ use std::alloc::AllocError;
 use thiserror::Error;
 
 /// Why a case has no loads.
-#[derive(Clone, Copy, Debug, PartialEq, Eq, Error)]
+#[derive(Clone, Copy, Debug, Error)]
 pub enum LoadFault {
     /// The load of the row reaches 2^66 in size, in units of 2^-40 N or N m; it is the first such row.
     #[error("the load of row {row} leaves its limit")]

@@ -15,7 +15,7 @@ use text_words::cut_line;
 use thiserror::Error;
 
 /// Why a text was not read.
-#[derive(Clone, Copy, Debug, PartialEq, Eq, Error)]
+#[derive(Clone, Copy, Debug, Error)]
 pub enum TextFault {
     /// The text is refused by this number, at this line, counted from 1.
     #[error("refused {number} line {line}")]

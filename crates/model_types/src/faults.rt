@@ -24,7 +24,7 @@ impl From<AllocError> for AddFault {
 }
 
 /// Why a draft is no model.
-#[derive(Clone, Copy, Debug, PartialEq, Eq, Error)]
+#[derive(Clone, Copy, Debug, Error)]
 pub enum WholeFault {
     /// There is no node.
     #[error("no node")]

@@ -8,7 +8,7 @@ use thiserror::Error;
 pub type NoMemory = AllocError;
 
 /// Why there is no candidate.
-#[derive(Clone, Copy, Debug, PartialEq, Eq, Error)]
+#[derive(Clone, Copy, Debug, Error)]
 pub enum SolveFault {
     /// A number of a turn leaves its limit.
     #[error("a number of the refinement leaves its limit")]

@@ -3,7 +3,7 @@ use std::alloc::AllocError;
 use thiserror::Error;
 
 /// Why a model has no structure.
-#[derive(Clone, Copy, Debug, PartialEq, Eq, Error)]
+#[derive(Clone, Copy, Debug, Error)]
 pub enum BuildFault {
     /// The members of the element leave their limits; it is the first such element.
     #[error("element {0:?} leaves its limits")]

@@ -1,6 +1,6 @@
 use Rattle.std.proofs.Common.{◌≡◌, ◌∷◌, ◌*◌, ◌+◌, ◌%◌, [], ◌++◌, ◌∙◌, ℕ, List, length, ap, sym, arith}
 use Rattle.lists.specs.Listed.{listed}
-use Rattle.cholesky_laws.specs.Recurrence.{freedom_at}
+use Rattle.lists.specs.Rows.{freedom_at}
 use Rattle.elim_tree.proofs.HeadLemmas.{listed_more}
 use Rattle.elim_tree.proofs.parts.rows_with.Goals as goal
 

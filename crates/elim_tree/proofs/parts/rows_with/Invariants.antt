@@ -1,6 +1,6 @@
 use Rattle.std.proofs.Common.{◌≡◌, ◌∷◌}
 use Rattle.lists.specs.Listed.{listed}
-use Rattle.cholesky_laws.specs.Recurrence.{freedom_at}
+use Rattle.lists.specs.Rows.{freedom_at}
 use Rattle.elim_tree.proofs.parts.rows_with.Given as goal
 
 abbrev pub invariant-loop-row : goal.invariant-loop-row
