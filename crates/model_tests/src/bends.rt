@@ -6,7 +6,8 @@ ghost use Rattle.member_pairs.specs.Vectors.{IsWay};
 use bend_element::{Arc, bend_members};
 use flex_interval::Iv;
 use member_pairs::{Tube, Way};
-use model_types::{Element, ElementId, NodeId, SectionId, Shape};
+use member_set::Member;
+use model_types::{Element, NodeId, SectionId, Shape};
 use std::process::Abort;
 use text_words::Name;
 
@@ -39,15 +40,25 @@ fn check(rt: &impl Abort, arc: &Arc, way: &Way, normal: &[Iv; 3], wanted: &Wante
         shape: Shape::Straight,
     };
     let members = bend_members(&bend, &tube, arc, way, normal).expect(rt, "a bend");
+    judge(rt, &members, wanted);
+}
+
+fn judge(rt: &impl Abort, members: &[Member], wanted: &Wanted) {
+    assert!(rt; members.len() == 6);
     for number in 0..6 {
         let member = &members[number];
         assert!(rt; member.n1 == 3 && member.n2 == 5);
-        assert!(rt; member.kappa == wanted.kappas[number]);
+        is_same(rt, &member.kappa, &wanted.kappas[number]);
     }
+    let last = &members[5];
     for part in 0..3 {
-        assert!(rt; members[5].w[3 + part] == wanted.rotations[part]);
-        assert!(rt; members[5].w[9 + part] == wanted.rotations[3 + part]);
+        is_same(rt, &last.w[3 + part], &wanted.rotations[part]);
+        is_same(rt, &last.w[9 + part], &wanted.rotations[3 + part]);
     }
+}
+
+fn is_same(rt: &impl Abort, found: &Iv, wanted: &Iv) {
+    assert!(rt; found.lo == wanted.lo && found.hi == wanted.hi);
 }
 
 // A radius of 229 mm in the plane of x and y, with this flexibility factor.
