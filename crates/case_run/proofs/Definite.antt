@@ -1,7 +1,5 @@
 -- Every realisation's own matrix is within the radii, so what the checker proves of all such matrices holds of it.
 use Rattle.std.proofs.Common.{◌≡◌, ℕ, ◌*◌, ◌<◌, subst, arith, List, ℤ, ◌-ℤ◌, ◌*ℤ◌, ◌≤ℤ◌}
-use Rattle.int_laws.proofs.SumLaws.{sum_below-same}
-use Rattle.int_laws.proofs.Products.{mul_swap}
 use Rattle.flex_interval.specs.Ends.{Ends}
 use Rattle.member_set.specs.declared.members.Built.{Built}
 use Rattle.member_set.specs.declared.members.Law.{Law}

@@ -1,6 +1,6 @@
 -- A model has one structure, one pair of matrices, and one list of loads.
 use Rattle.std.specs.Prelude.{if◌then◌else◌, nat_eq, IsErr, IsOk, Result, Ok, Err}
-use Rattle.std.proofs.Common.{◌≡◌, ℕ, zero, suc, ◌*◌, ◌^◌, ◌<◌, ◌≤◌, refl, sym, ◌∙◌, ap, ap₂, arith, List, [], ◌∷◌, length, Contains, ext_get_or, ℤ, pos, ◌-ℤ◌, ◌*ℤ◌, inl, inr}
+use Rattle.std.proofs.Common.{◌≡◌, ℕ, ◌*◌, ◌^◌, ◌<◌, ◌≤◌, sym, ◌∙◌, ap, arith, List, [], length, ext_get_or, ℤ, pos, ◌-ℤ◌, ◌*ℤ◌, inl, inr}
 use Rattle.std.proofs.lemmas.Bool.{cases_lt}
 use Rattle.flex_interval.specs.Ends.{Ends}
 use Rattle.member_set.specs.declared.members.Member.{Member}

@@ -1,5 +1,6 @@
 pub mod Causes
 pub mod Steps
+pub mod Faults
 pub mod Certified
 pub mod Equilibria
 pub mod Shared

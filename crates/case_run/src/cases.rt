@@ -12,10 +12,11 @@ ghost use Rattle.structure.specs.Anchors.{HasAnchorsAlone};
 
 use crate::fault::CaseFault;
 use crate::shared::{Shared, share};
-use crate::steps::{bounds_around, displacements_of, loads_of};
-use certificate::Enclosure;
+use certificate::{Enclosure, enclose};
 use flex_interval::Iv;
+use load_vectors::loads;
 use model_types::{Bounds, CaseAnswer, CaseId, Cause, Model, NoMemory, Sequence};
+use solve::candidate;
 use std::alloc::{AllocError, Global};
 
 /// The answer of each case of a model in whose cases nothing but forces acts: certified bounds, or the first cause why there
@@ -105,13 +106,13 @@ fn enclosure_of(
     ensures encloses { IfOk result (λ e. OfEquilibria m.now case.0 (EnclosesEquilibrium e)) }
     ensures cause { IfErr result (λ f. (p : Plan) → IsShared m.now p shared.now → Names (IsUncertified m.now case.0 p) f) }
 {
-    let loads = loads_of(alloc, m, case)?;
+    let loads = loads(alloc, m, case)?;
     let factor = match &shared.factor {
         Ok(factor) => factor,
         Err(cause) => return Err(CaseFault::Because(*cause)),
     };
-    let u = displacements_of(alloc, &shared.b, &shared.laws, &loads, factor)?;
-    bounds_around(alloc, &shared.b, &shared.laws, &loads, &u, shared.lambda)
+    let u = candidate(alloc, &shared.b, &shared.laws, &[], &loads, factor)?;
+    Ok(enclose(alloc, &shared.b, &shared.laws, &loads, &u, shared.lambda)?)
 }
 
 /// The answer with bounds: of all displacements, and of the forces of the members from `first` on.

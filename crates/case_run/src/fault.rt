@@ -1,7 +1,14 @@
 ghost use Rattle.std.specs.Prelude.{◌≡◌};
+ghost use Rattle.case_run.specs.Faults.{build_fault, assemble_fault, load_fault, scalar_fault, solve_fault, enclose_fault};
 
-use model_types::Cause;
+use assembly::AssembleFault;
+use certificate::EncloseFault;
+use factor::ScalarFault;
+use load_vectors::LoadFault;
+use model_types::{Cause, NodeId};
+use solve::SolveFault;
 use std::alloc::AllocError;
+use structure::BuildFault;
 
 /// Why a case goes no further.
 #[derive(Clone, Copy)]
@@ -20,5 +27,81 @@ impl From<AllocError> for CaseFault {
 
     fn from(_error: AllocError) -> CaseFault {
         CaseFault::NoMemory
+    }
+}
+
+impl From<BuildFault> for CaseFault {
+    ghost from_gives = { λ error fault. fault ≡ build_fault error };
+
+    fn from(error: BuildFault) -> CaseFault {
+        match error {
+            BuildFault::Wide(element) => CaseFault::Because(Cause::WidthElement(element)),
+            BuildFault::NoMemory => CaseFault::NoMemory,
+        }
+    }
+}
+
+impl From<AssembleFault> for CaseFault {
+    ghost from_gives = { λ error fault. fault ≡ assemble_fault error };
+
+    fn from(error: AssembleFault) -> CaseFault {
+        match error {
+            AssembleFault::Wide { row } => CaseFault::Because(Cause::WidthMatrix {
+                node: NodeId(row / 6),
+                freedom: row % 6,
+            }),
+            AssembleFault::NoMemory => CaseFault::NoMemory,
+        }
+    }
+}
+
+impl From<LoadFault> for CaseFault {
+    ghost from_gives = { λ error fault. fault ≡ load_fault error };
+
+    fn from(error: LoadFault) -> CaseFault {
+        match error {
+            LoadFault::Wide { row } => CaseFault::Because(Cause::WidthLoad {
+                node: NodeId(row / 6),
+                freedom: row % 6,
+            }),
+            LoadFault::NoMemory => CaseFault::NoMemory,
+        }
+    }
+}
+
+impl From<ScalarFault> for CaseFault {
+    ghost from_gives = { λ error fault. fault ≡ scalar_fault error };
+
+    fn from(error: ScalarFault) -> CaseFault {
+        match error {
+            ScalarFault::Pivot { node, dof } => CaseFault::Because(Cause::Pivot {
+                node: NodeId(node),
+                freedom: dof,
+            }),
+            ScalarFault::Wide { node } => CaseFault::Because(Cause::WidthFactor(NodeId(node))),
+            ScalarFault::NoMemory => CaseFault::NoMemory,
+        }
+    }
+}
+
+impl From<SolveFault> for CaseFault {
+    ghost from_gives = { λ error fault. fault ≡ solve_fault error };
+
+    fn from(error: SolveFault) -> CaseFault {
+        match error {
+            SolveFault::Wide => CaseFault::Because(Cause::WidthSolve { turn: 1 }),
+            SolveFault::NoMemory => CaseFault::NoMemory,
+        }
+    }
+}
+
+impl From<EncloseFault> for CaseFault {
+    ghost from_gives = { λ error fault. fault ≡ enclose_fault error };
+
+    fn from(error: EncloseFault) -> CaseFault {
+        match error {
+            EncloseFault::Wide => CaseFault::Because(Cause::WidthResidual),
+            EncloseFault::NoMemory => CaseFault::NoMemory,
+        }
     }
 }

@@ -7,11 +7,12 @@ ghost use Rattle.structure.specs.Anchors.{HasAnchorsAlone};
 
 use crate::fault::CaseFault;
 use crate::margin::margin_of;
-use crate::steps::{factor_of, laws_of, matrices_of, structure_of};
+use crate::steps::{factor_of, laws_of, matrices_of};
 use factor_data::Factor;
 use member_set::{Built, Law};
 use model_types::{Cause, Model};
 use std::alloc::{AllocError, Global};
+use structure::build;
 use sym_blocks::SymBlocks;
 
 /// What all cases of a model share.
@@ -41,7 +42,7 @@ pub(crate) fn share(
     ensures shared { IfOk result (IsShared m.now (plan order.now parents.now)) }
     ensures cause { IfErr result (Names (IsModelCause m.now (plan order.now parents.now))) }
 {
-    let b = structure_of(alloc, m)?;
+    let b = build(alloc, m)?;
     let (middles, radii) = matrices_of(alloc, &b)?;
     let lambda = margin_of(alloc, &middles, &radii, order, parents)?;
     let laws = laws_of(alloc, &b)?;

@@ -1,12 +1,19 @@
-use Rattle.std.proofs.Common.{◌∙◌, sym, to_z-of_z, rules, FitsSigned}
+use Rattle.std.proofs.Common.{◌∙◌, Err, ap, sym, to_z-of_z, rules, FitsSigned}
 use Rattle.std.specs.Int.{w128}
 use Rattle.std.proofs.lemmas.Result.{err_from_is_err_and}
 use Rattle.case_run.specs.Causes.{plan, resting_laws}
-use Rattle.case_run.specs.Certified.{no_matrices, no_margin}
-use Rattle.case_run.proofs.Faults.{names_also}
+use Rattle.case_run.specs.Certified.{no_structure, no_matrices, no_margin}
+use Rattle.case_run.proofs.Faults.{names_also, names_element}
 use Rattle.case_run.proofs.Definite.{definite_realisation}
 use Rattle.case_run.proofs.Sharing.{factor_for}
 use Rattle.case_run.proofs.shared.share.Goals as goal
+
+pub returns-in_err-b-clause-cause : goal.returns-in_err-b-clause-cause
+returns-in_err-b-clause-cause c =
+    let p = err_from_is_err_and c.from_residual.result c.from_residual.ensures.1 in
+    rw (p.1, p.2)
+    (names_also _ _ _ (λ cause is. no_structure is)
+    (names_element c.args.m.now c.in_err-b.field-0.0 (λ element is. c.in_err-b.ensures.wide element (ap Err is))))
 
 pub returns-in_err-middles-clause-cause : goal.returns-in_err-middles-clause-cause
 returns-in_err-middles-clause-cause c =

@@ -1,13 +1,13 @@
 use Rattle.std.proofs.Common.{to_z-of_z}
+use Rattle.std.proofs.lemmas.Result.{err_from_is_err_and}
 use Rattle.case_run.proofs.Diagonal.{diagonal_positive}
-use Rattle.case_run.specs.Causes.{pivot, wide}
+use Rattle.case_run.proofs.Faults.{names_breakdown}
 use Rattle.case_run.proofs.steps.factor_of.Goals as goal
 
-pub returns-in-Ok-clause-diagonal : goal.returns-in-Ok-clause-diagonal
-returns-in-Ok-clause-diagonal c = diagonal_positive _ _ _ _ c.in-Ok.ensures
+pub returns-in_err-scalar-clause-cause : goal.returns-in_err-scalar-clause-cause
+returns-in_err-scalar-clause-cause c =
+    let p = err_from_is_err_and c.from_residual.result c.from_residual.ensures.1 in
+    rw (p.1, p.2) (names_breakdown _ _ _ _ (rw (to_z-of_z c.ranges.shift) at c.in_err-scalar.ensures))
 
-pub returns-in-Err-Pivot-clause-cause : goal.returns-in-Err-Pivot-clause-cause
-returns-in-Err-Pivot-clause-cause c = pivot _ _ (rw (c.in-Err-Pivot.field-0-is, to_z-of_z c.ranges.shift) at c.in-Err-Pivot.ensures)
-
-pub returns-in-Err-Wide-clause-cause : goal.returns-in-Err-Wide-clause-cause
-returns-in-Err-Wide-clause-cause c = wide _ (rw (c.in-Err-Wide.field-0-is, to_z-of_z c.ranges.shift) at c.in-Err-Wide.ensures)
+pub returns-clause-diagonal : goal.returns-clause-diagonal
+returns-clause-diagonal c = diagonal_positive _ _ _ _ c.in_ok-scalar.ensures
