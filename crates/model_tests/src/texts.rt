@@ -101,7 +101,7 @@ fn finds_the_line_of_a_node(rt: HostRuntime) {
     let text = BASE.as_bytes();
     let model = read(rt.alloc(), text).expect(&rt, "a model");
     assert!(rt; model.nodes().len() > 1);
-    let line = node_line(rt.alloc(), text, NodeId(1)).expect(&rt, "memory");
+    let line = node_line(text, NodeId(1));
     assert!(rt; line == 5);
 }
 

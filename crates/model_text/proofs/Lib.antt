@@ -1,5 +1,6 @@
 mod Appended
 mod LineLemmas
+mod NodeLines
 mod PlainWords
 mod RoundTrip
 mod WordLemmas

@@ -1,5 +1,5 @@
 -- Lemmas on reading line by line.
-use Rattle.std.proofs.Common.{◌≡◌, ◌≢◌, ℕ, ◌+◌, ◌<◌, ◌≤◌, ◌==◌, Bool, true, false, nat_lt, List, [], ◌∷◌, ◌++◌, IsOkAnd, IfOk, true≢false, subst, length, length-append, append_assoc, Result, Ok, Err, if◌then◌else◌, refl, sym, ap, ◌∙◌, arith}
+use Rattle.std.proofs.Common.{◌≡◌, ◌≢◌, ℕ, ◌+◌, ◌<◌, ◌≤◌, ◌==◌, Bool, true, false, nat_lt, List, [], ◌∷◌, ◌++◌, IsOkAnd, IfOk, true≢false, subst, length, Result, Ok, Err, if◌then◌else◌, refl, sym, ap, ◌∙◌, arith}
 use Rattle.std.proofs.lemmas.Bool.{cond-true, cond-false, ne_eqb}
 use Rattle.std.proofs.lemmas.Bool.Decides.{nat_tests}
 use Rattle.std.proofs.lemmas.List.Splits.{length-slice_split}
@@ -9,7 +9,7 @@ use Rattle.model_types.specs.declared.faults.AddFault.TheVariants as line_fault
 use Rattle.model_types.specs.Lists.{Lists}
 use Rattle.text_words.specs.Fields.{lines}
 use Rattle.model_text.specs.Lines.{State, start, after_line, at_line}
-use Rattle.model_text.specs.Grammar.{Refusal, go_on, after_lines, whole, parsed, longest_text, IsFault, IsLineOfNode, IsRefusedAt, too_long, by_line, no_header, no_node, StandsFor, RefusalsAreReasons, ModelsAreAccepted}
+use Rattle.model_text.specs.Grammar.{Refusal, go_on, after_lines, whole, parsed, longest_text, IsFault, IsRefusedAt, too_long, by_line, no_header, no_node, StandsFor, RefusalsAreReasons, ModelsAreAccepted}
 use Rattle.model_text.specs.declared.reader.TextFault.TheVariants as text_fault
 
 module _ (s : State) (n : ℕ) where
@@ -49,7 +49,7 @@ unfolding parsed
 parsed-long text long = let test : nat_lt longest_text (length text) ≡ true = grind (arith, nat_tests) in ap (λ b. if b then Err (record { number = 1; line = 1 }) else whole (after_lines start 1 (lines text))) test
 
 -- a result has one value
-ok_same : {A E : Type 0} (r : Result A E) (x y : A) → r ≡ Ok x → r ≡ Ok y → x ≡ y
+pub ok_same : {A E : Type 0} (r : Result A E) (x y : A) → r ≡ Ok x → r ≡ Ok y → x ≡ y
 ok_same r x y p q = cc
 
 err_same : {A E : Type 0} (r : Result A E) (x y : E) → r ≡ Err x → r ≡ Err y → x ≡ y
@@ -59,7 +59,7 @@ err_same r x y p q = cc
 ok_no_err : {A E : Type 0} (x : A) (e : E) → Ok x ≡ Err e → ⊥
 ok_no_err x e h = cc
 
-err_no_ok : {A E : Type 0} (x : A) (e : E) → Err e ≡ Ok x → ⊥
+pub err_no_ok : {A E : Type 0} (x : A) (e : E) → Err e ≡ Ok x → ⊥
 err_no_ok x e h = cc
 
 -- the lines before and after are read one after the other
@@ -117,7 +117,7 @@ missing : ℕ → Refusal
 missing number = record { number = number; line = 1 }
 
 -- what the whole text lacks
-empty_list : {X : Type 0} (xs : List X) → (length xs == 0) ≡ true → xs ≡ []
+pub empty_list : {X : Type 0} (xs : List X) → (length xs == 0) ≡ true → xs ≡ []
 empty_list [] e = refl
 empty_list (x ∷ xs) e = absurd (grind (arith, nat_tests))
 
@@ -229,52 +229,6 @@ pub if_stands : {T E : Type 0} (text : List ℕ) (lists : T → Lists) (r : Resu
 if_stands text lists (Ok x) read = parsed-stands text (lists x) read
 if_stands text lists (Err e) read = tt
 
--- the lines before line n are accepted, made `read` and not the node of that number, and `left` are the lines from n on
-pub record IsReadUpTo (text : List ℕ) (left : List (List ℕ)) (n : ℕ) (read : State) (node : ℕ) : Type 0 where
-  pub before : List (List ℕ)
-  pub lines_are : lines text ≡ before ++ left
-  pub line_is : n ≡ length before + 1
-  pub accepted : after_lines start 1 before ≡ Ok read
-  pub not_before : length read.draft.nodes ≤ node
-
-module _ (text : List ℕ) (left : List (List ℕ)) (n : ℕ) (read : State) (node : ℕ) (up_to : IsReadUpTo text left n read node) where
-  -- the whole text is read as the lines left are after these
-  after_left : after_lines start 1 (lines text) ≡ after_lines read n left
-  after_left =
-      let place : 1 + length up_to.before ≡ n = omega (arith, up_to.line_is) in
-      ap (after_lines start 1) up_to.lines_are ∙ after_lines-append start read 1 up_to.before left up_to.accepted ∙ ap (λ k. after_lines read k left) place
-
-  module _ (at : List ℕ) (behind : List (List ℕ)) (next : left ≡ at ∷ behind) where
-    -- one more accepted line that doesn't make the node
-    pub IsReadUpTo-more : (new : State) → after_line read at ≡ Ok new → length new.draft.nodes ≤ node → IsReadUpTo text behind (n + 1) new node
-    IsReadUpTo-more new ok small =
-        let place : n + 1 ≡ length (up_to.before ++ at ∷ []) + 1 = omega (arith, up_to.line_is, length-append up_to.before (at ∷ [])) in
-        record {
-          before = up_to.before ++ at ∷ [];
-          lines_are = up_to.lines_are ∙ ap (λ l. up_to.before ++ l) next ∙ sym (append_assoc up_to.before (at ∷ []) behind);
-          line_is = place;
-          accepted = after_lines-append start read 1 up_to.before (at ∷ []) up_to.accepted ∙ after_lines-Ok read (1 + length up_to.before) at [] new ok ∙ after_lines-nil new (1 + length up_to.before + 1);
-          not_before = small;
-        }
-
-    -- the accepted line that makes it
-    pub IsLineOfNode-next : (new : State) → after_line read at ≡ Ok new → node < length new.draft.nodes → IsLineOfNode text node n
-    IsLineOfNode-next new ok there = record {
-      at = at;
-      read = read;
-      read_next = new;
-      is_line = record { before = up_to.before; behind = behind; lines_are = up_to.lines_are ∙ ap (λ l. up_to.before ++ l) next; line_is = up_to.line_is; accepted = up_to.accepted };
-      next = ok;
-      not_before = up_to.not_before;
-      there = there;
-    }
-
--- nothing has been read
-pub IsReadUpTo-none : (text : List ℕ) (node : ℕ) (read : State) → start ≡ read → IsReadUpTo text (lines text) 1 read node
-IsReadUpTo-none text node read fresh =
-    subst (λ r. IsReadUpTo text (lines text) 1 r node) fresh
-    (record { before = []; lines_are = refl; line_is = omega arith; accepted = after_lines-nil start 1; not_before = omega arith })
-
 module _ (P : Lists → Type 0) where
   kept_lists : (header none : Bool) (m : Lists) (e f : Refusal) → IsOkAnd (if header then (if none then Err e else Ok m) else Err f) P → P m
   kept_lists true true m e f h = absurd h
@@ -298,27 +252,3 @@ module _ (P : Lists → Type 0) where
   -- all its lines are accepted, and what they made is what it stands for
   pub accepted-lines : (text : List ℕ) → IsOkAnd (parsed text) P → (s : State) × (after_lines start 1 (lines text) ≡ Ok s) × P s.draft
   accepted-lines text h = accepted_by (after_lines start 1 (lines text)) (subst (λ r. IsOkAnd r P) (parsed-lines text (accepted-short text h)) h)
-
-module _ (text : List ℕ) (left : List (List ℕ)) (n : ℕ) (read : State) (node : ℕ) (up_to : IsReadUpTo text left n read node)
-    (accepted : IsOkAnd (parsed text) (λ m. node < length m.nodes)) where
-  -- no line of an accepted text is refused
-  pub none_refused : (at : List ℕ) (behind : List (List ℕ)) (number : ℕ) → left ≡ at ∷ behind → after_line read at ≡ Err number → ⊥
-  none_refused at behind number next fault =
-      let all = accepted-lines (λ m. node < length m.nodes) text accepted in
-      let refused = after_left text left n read node up_to ∙ ap (after_lines read n) next ∙ after_lines-Err read n at behind number fault in
-      ok_no_err all.0 (record { number = number; line = n }) (sym all.1 ∙ refused)
-
-  -- and some line makes each node
-  pub some_left : left ≡ [] → ⊥
-  some_left none =
-      let all = accepted-lines (λ m. node < length m.nodes) text accepted in
-      let same : all.0 ≡ read = ok_same (after_lines start 1 (lines text)) all.0 read all.1 (after_left text left n read node up_to ∙ ap (after_lines read n) none ∙ after_lines-nil read n) in
-      let there : node < length read.draft.nodes = subst (λ s. node < length s.draft.nodes) same all.2 in
-      let small : length read.draft.nodes ≤ node = up_to.not_before in
-      absurd (omega arith)
-
-  -- the number of a line fits
-  pub line_small : n ≤ 4194306
-  line_small =
-      let short = accepted-short (λ m. node < length m.nodes) text accepted in
-      omega (arith, up_to.line_is, ap length up_to.lines_are, length-append up_to.before left, length-lines text, short)

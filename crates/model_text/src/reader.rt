@@ -1,15 +1,16 @@
 //! The reader of the model text.
-ghost use Rattle.std.specs.Prelude.{◌≡◌, ◌<◌, IsOkAnd, ◌≤◌, ℕ, length, Ok, Err, OnOk, IfOk};
+ghost use Rattle.std.specs.Prelude.{◌≡◌, ◌<◌, IsOkAnd, ◌≤◌, ℕ, length, codes, Ok, Err, OnOk, IfOk};
+ghost use Rattle.std.specs.Str.{bytes_eq};
 ghost use Rattle.model_types.specs.Ranges.{InForm};
 ghost use Rattle.model_types.specs.Rules.{IsModel};
 ghost use Rattle.model_text.specs.Lines as line_of;
 ghost use Rattle.model_text.specs.Grammar as grammar;
-ghost use Rattle.model_text.specs.Words.{words};
+ghost use Rattle.model_text.specs.Words.{words, word};
 ghost use Rattle.text_words.specs.Fields.{lines};
 
 use crate::records::record_of_words;
 use crate::words::{count, is_allowed, word};
-use model_types::{AddFault, Bounds, Case, Draft, Model, NoMemory, NodeId, Record, Space};
+use model_types::{AddFault, Bounds, Case, Draft, Model, NodeId, Record};
 use std::alloc::{AllocError, Global};
 use text_words::cut_line;
 use thiserror::Error;
@@ -142,42 +143,32 @@ fn take_lines(reading: &mut Reading, text: &[u8]) -> Result<(), TextFault>
 }
 
 /// The line, counted from 1, of the node of that number in an accepted text.
-pub fn node_line(alloc: Global, text: &[u8], node: NodeId) -> Result<u32, NoMemory>
+pub fn node_line(text: &[u8], node: NodeId) -> u32
     requires { IsOkAnd (grammar.parsed text.now) (λ model. node.0 < length model.nodes) }
-    ensures { IfOk result (grammar.IsLineOfNode text.now node.0) }
-{
-    let draft = Draft::new(alloc)?;
-    let mut reading = Reading {
-        header: false,
-        draft,
-    };
-    let line = line_of_node(&mut reading, text, node);
-    drop(reading);
-    line
-}
-
-// The line that makes the node of that number, of a text that nothing has been read of.
-fn line_of_node(reading: &mut Reading, text: &[u8], node: NodeId) -> Result<u32, NoMemory>
-    requires accepted { IsOkAnd (grammar.parsed text.now) (λ model. node.0 < length model.nodes) }
-    requires fresh { reading.old ≡ line_of.start }
-    ensures { IfOk result (grammar.IsLineOfNode text.now node.0) }
+    ensures { grammar.IsLineOfNode text.now node.0 result }
 {
     let mut rest = Some(text);
     let mut line = 1;
+    let mut nodes = 0;
     while let Some(left) = rest {
         let (front, behind) = cut_line(left);
-        match take_line(reading, front) {
-            Ok(()) => {}
-            Err(AddFault::NoMemory) => return Err(AllocError),
-            Err(AddFault::Refused(_)) => unreachable!(),
-        }
-        if reading.draft.count(Space::Node) > node.0 as usize {
-            return Ok(line);
+        if is_node(front) {
+            if nodes == node.0 {
+                return line;
+            }
+            nodes += 1;
         }
         rest = behind;
         line += 1;
     }
     unreachable!()
+}
+
+// Whether a line's first word is `node`.
+fn is_node(line: &[u8]) -> bool
+    ensures { result ≡ bytes_eq (word (words line.now) 0) (codes "node") }
+{
+    word(line, 0) == b"node".as_slice()
 }
 
 // The fault of a line.
