@@ -1,4 +1,5 @@
 pub mod ListLemmas
+pub mod InsertLemmas
 pub mod JoinLemmas
 pub mod GraphLemmas
 pub mod QueueLemmas

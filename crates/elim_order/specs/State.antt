@@ -1,5 +1,5 @@
 -- The lists of neighbours, as nodes are eliminated.
-use Rattle.std.specs.Prelude.{◌≡◌, ◌≢◌, ℕ, ◌<◌, List, length, slice_index, Contains, ◌⊎◌, ◌↔◌, ⊤}
+use Rattle.std.specs.Prelude.{◌≡◌, ◌≢◌, ℕ, ◌<◌, ◌≤◌, List, length, slice_index, Contains, ◌⊎◌, ◌↔◌, ⊤}
 use Rattle.lists.specs.Rising.{IsRising}
 use Rattle.lists.specs.Lists.{list_of}
 use Rattle.elim_order.specs.Graph.{after}
@@ -28,6 +28,13 @@ pub record IsGraph (lists : List (List ℕ)) : Type 0 where
 pub record Joins (old new front : List ℕ) (gone own : ℕ) : Type 0 where
   pub rising : IsRising new
   pub members : (k : ℕ) → Contains new k ↔ ((Contains old k × (k ≢ gone)) ⊎ (Contains front k × (k ≢ own)))
+
+-- a number is put into a list, which stays in order, and up to the place past it no number is greater
+pub record InsertsUpTo (old new : List ℕ) (number past : ℕ) : Type 0 where
+  pub rising : IsRising new
+  pub members : (k : ℕ) → Contains new k ↔ (Contains old k ⊎ (k ≡ number))
+  pub within : past ≤ length new
+  pub up_to : (k : ℕ) → k < past → slice_index new k ≤ number
 
 -- of nodes in order those are taken that are no neighbour of one taken before
 pub record TakesApart (lists : List (List ℕ)) (nodes taken : List ℕ) : Type 0 where

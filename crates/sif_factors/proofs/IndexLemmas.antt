@@ -1,6 +1,5 @@
 -- An index from the enclosure of its cube before the root.
-use Rattle.std.specs.Prelude.{if◌then◌else◌}
-use Rattle.std.proofs.Common.{◌≡◌, ◌^◌, ◌⊎◌, inl, inr, ◌∙◌, ap, refl, arith, ℤ, pos, ◌*ℤ◌, ◌≤ℤ◌, ◌<ℤ◌}
+use Rattle.std.proofs.Common.{◌≡◌, ◌^◌, inl, inr, ◌∙◌, ap, arith, ℤ, pos, ◌*ℤ◌, ◌≤ℤ◌}
 use Rattle.std.proofs.lemmas.Int.{clamps, by_lt_z}
 use Rattle.std.specs.Int.{int_max}
 use Rattle.int_laws.specs.Powers.{power}

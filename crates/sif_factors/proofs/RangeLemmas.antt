@@ -1,5 +1,5 @@
 -- Bends and tees of a text keep 1/h in range.
-use Rattle.std.proofs.Common.{◌*◌, ◌^◌, arith, ℤ, pos, ◌+ℤ◌, ◌*ℤ◌, ◌≤ℤ◌, ◌<ℤ◌}
+use Rattle.std.proofs.Common.{arith, ℤ, pos, ◌*ℤ◌, ◌≤ℤ◌, ◌<ℤ◌}
 use Rattle.std.proofs.lemmas.Int.{ints}
 use Rattle.int_laws.proofs.Sums.{int_sums}
 use Rattle.int_laws.proofs.Products.{le_mul, mul_comm, mul_positive, square_nonnegative, product_most}

@@ -1,7 +1,7 @@
 -- The factors of a bend and of a tee: what encloses them, and their intervals.
-use Rattle.std.specs.Prelude.{◌≡◌, ◌*◌, ◌^◌, ℤ, pos, ◌+ℤ◌, ◌*ℤ◌, int_le, Result, Ok, if◌then◌else◌}
+use Rattle.std.specs.Prelude.{◌^◌, ℤ, pos, ◌+ℤ◌, ◌*ℤ◌, int_le, Result, Ok, if◌then◌else◌}
 use Rattle.flex_interval.specs.Ends.{Ends}
-use Rattle.flex_interval.specs.Fraction.{Fraction, Within, whole, greater, over}
+use Rattle.flex_interval.specs.Fraction.{Fraction, whole, greater, over}
 use Rattle.flex_interval.specs.declared.fault.IvFault.{IvFault}
 use Rattle.flex_interval.specs.Operations.{and_then, point_of}
 use Rattle.model_types.specs.declared.records.Section.{Section}

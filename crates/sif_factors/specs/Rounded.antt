@@ -1,5 +1,5 @@
 -- The interval that each step of a factor answers, operation by operation.
-use Rattle.std.specs.Prelude.{◌*◌, ◌^◌, ℤ, pos, ◌+ℤ◌, ◌*ℤ◌, int_le, Result, Ok, if◌then◌else◌}
+use Rattle.std.specs.Prelude.{◌^◌, ℤ, pos, ◌*ℤ◌, Result, Ok}
 use Rattle.flex_interval.specs.Ends.{Ends}
 use Rattle.flex_interval.specs.declared.fault.IvFault.{IvFault}
 use Rattle.flex_interval.specs.Operations.{and_then, point_of, add_of, max_of, mul_of, ratio_of, cbrt_of}

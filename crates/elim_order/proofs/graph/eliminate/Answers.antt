@@ -43,8 +43,8 @@ bounds-neighbours-own c =
     let in' = c.requires.graph.in_range c.args.node (get_or front c.loop-own.own-index 0) (listed (contents nb) front c.args.node c.loop-own.own-index is (omega arith)) in
     omega (arith, in', length-contents nb, c.loop-own.auto.neighbours, length-set nb c.args.node c.replace-front.new.dest)
 
-pub join-requires : goal.join-requires
-join-requires c =
+pub join-requires-clause-list : goal.join-requires-clause-list
+join-requires-clause-list c =
     let vs = c.loop-own.neighbours in
     let own = get_or c.deref-own-items.result.now c.loop-own.own-index 0 in
     let nb = c.args.neighbours.now in
@@ -55,6 +55,14 @@ join-requires c =
     let in' = c.requires.graph.in_range c.args.node own (listed (contents nb) front c.args.node c.loop-own.own-index is (omega arith)) in
     let lt : own < length vs = omega (arith, in', length-contents nb, c.loop-own.auto.neighbours, length-set nb c.args.node c.replace-front.new.dest) in
     subst IsRising (list_at vs own c.index-neighbours-own.result lt) (c.loop-own.invariant.rising own)
+
+pub join-requires-clause-front : goal.join-requires-clause-front
+join-requires-clause-front c =
+    let nb = c.args.neighbours.now in
+    let is : c.deref-own-items.result.now ≡ list_of (contents nb) c.args.node =
+    c.deref-own-items.ensures.value ∙ ap (λ (v : Vec ℕ Global). v.items) c.replace-front.ensures.value ∙ sym (list_at nb c.args.node c.index-neighbours-node.result c.requires.node)
+    in
+    subst IsRising (sym (c.deref.ensures.value ∙ sym c.deref-own-items.ensures.value ∙ is)) (c.requires.graph.rising c.args.node)
 
 pub loop-own-preserved : goal.loop-own-preserved
 loop-own-preserved c =

@@ -1,8 +1,7 @@
-use Rattle.std.proofs.Common.{rules, ◌≡◌, true, false, pos, ◌*ℤ◌, ◌+ℤ◌, arith, subst, int_le, sym, FitsSigned, to_z-of_z}
+use Rattle.std.proofs.Common.{rules, ◌≡◌, true, false, pos, ◌*ℤ◌, ◌+ℤ◌, arith, int_le, FitsSigned, to_z-of_z}
 use Rattle.std.proofs.lemmas.Int.{ints}
 use Rattle.std.specs.Int.{w64}
 use Rattle.int_laws.proofs.Products.{mul_assoc}
-use Rattle.flex_interval.specs.Fraction.{Within}
 use Rattle.sif_factors.specs.Factors.{tee_inverse_square_of}
 use Rattle.sif_factors.proofs.characteristic.pad_inverse_square.Goals as goal
 

@@ -1,4 +1,4 @@
-use Rattle.std.proofs.Common.{◌^◌, pos, ◌*ℤ◌, ◌≤ℤ◌, arith}
+use Rattle.std.proofs.Common.{◌^◌, pos, ◌≤ℤ◌, arith}
 use Rattle.std.proofs.lemmas.Int.{ints}
 use Rattle.sif_factors.specs.Parts.{multiplied}
 use Rattle.sif_factors.proofs.RangeLemmas.{square_most, product_of_most}

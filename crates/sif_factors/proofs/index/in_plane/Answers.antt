@@ -1,5 +1,3 @@
-use Rattle.std.proofs.Common.{◌^◌, pos, arith}
-use Rattle.std.proofs.lemmas.Int.{ints}
 use Rattle.sif_factors.proofs.index.in_plane.Goals as goal
 
 pub returns-clause-within : goal.returns-clause-within
