@@ -5,7 +5,7 @@ use Rattle.std.specs.Prelude.{ℕ, ◌^◌, ◌*◌, ℤ, pos, ◌*ℤ◌}
 use Rattle.flex_interval.specs.Fraction.{Fraction, whole, scaled, times, over, plus, minus}
 use Rattle.member_pairs.specs.Axes.{Axis, End, Motion}
 use Rattle.member_pairs.specs.Pairs.{shape}
-use Rattle.member_pairs.specs.Tubes.{load_of, divisor_of}
+use Rattle.member_pairs.specs.Tubes.{tube_load, divisor_of}
 use Rattle.member_pairs.specs.Vectors.{Exact, no_vector, opposite, cross, stretched, total, difference}
 use Rattle.member_pairs.specs.declared.tube.Tube.{Tube}
 use Rattle.bend_element.specs.Arcs.{ExactArc}
@@ -28,7 +28,7 @@ spread x = minus (cosine_square x) (scaled (over (times x.sin x.sin 56) x.a 56) 
 
 -- EI/R in 2^-20 N m
 unfoldable pub rigidity : Tube → ExactArc → Fraction → Fraction
-rigidity tube x pi = scaled (over (scaled pi (load_of tube) (pos 1)) (whole (pos (2 ^ 38) *ℤ x.radius)) 0) tube.square_sum (pos (16 * 10 ^ 12))
+rigidity tube x pi = scaled (over (scaled pi (tube_load tube) (pos 1)) (whole (pos (2 ^ 38) *ℤ x.radius)) 0) tube.square_sum (pos (16 * 10 ^ 12))
 
 -- EI/GJ = 1 + nu, in 2^-56
 unfoldable pub twist : Tube → Fraction

@@ -9,7 +9,7 @@ use Rattle.model_types.specs.declared.records.Element.{Element}
 use Rattle.member_set.specs.declared.members.Member.{Member}
 use Rattle.member_pairs.specs.Lengths.{length_of, tangent_of, half_of}
 use Rattle.member_pairs.specs.Pairs.{limited_member}
-use Rattle.member_pairs.specs.Tubes.{load_of, divisor_of}
+use Rattle.member_pairs.specs.Tubes.{tube_load, divisor_of}
 use Rattle.member_pairs.specs.Vectors.{parts_of, zero_vector, negative_of, cross_of, stretched_of, total_of, difference_of}
 use Rattle.member_pairs.specs.declared.tube.Tube.{Tube}
 use Rattle.member_pairs.specs.declared.way.Way.{Way}
@@ -105,7 +105,7 @@ flexibility_of tube arc =
 -- EI/R
 unfoldable pub rigidity_of : Tube → Arc → Result Ends IvFault
 rigidity_of tube arc =
-    and_then (ratio_of pi_ends (load_of tube) (pos 1)) (λ load. and_then (div_of load (point_of (pos (2 ^ 38) *ℤ arc.radius)) 0) (λ axial.
+    and_then (ratio_of pi_ends (tube_load tube) (pos 1)) (λ load. and_then (div_of load (point_of (pos (2 ^ 38) *ℤ arc.radius)) 0) (λ axial.
     ratio_of axial tube.square_sum (pos (16 * 10 ^ 12))))
 
 unfoldable pub stiffness_of : Ends → Flexibility → Result Stiffness IvFault

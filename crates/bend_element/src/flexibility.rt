@@ -1,6 +1,6 @@
 ghost use Rattle.std.specs.Prelude.{◌≡◌, IfOk};
 ghost use Rattle.flex_interval.specs.Fraction.{Fraction, Within};
-ghost use Rattle.member_pairs.specs.Tubes.{IsRound};
+ghost use Rattle.member_pairs.specs.Tubes.{IsRoundTube};
 ghost use Rattle.bend_element.specs.Arcs.{IsArc, ExactArc, EnclosesArc};
 ghost use Rattle.bend_element.specs.ExactBend.{sine_square, twist as exact_twist, twisted_sine, gyration_square, radius_square, bending_square, weighted, rotation_flexibility, radial_flexibility, chord_moment_flexibility, offset_flexibility, normal_flexibility, normal_centre};
 ghost use Rattle.bend_element.specs.Rounded.{twist_of, gyration_square_of, radius_square_of, bending_square_of, weighted_of, rotation_of, radial_of, in_plane_of, offset_of, normal_of, normal_centre_of, across_of, flexibility_of};
@@ -48,7 +48,7 @@ pub struct Flexibility {
 /// The flexibilities of an arc of a tube.
 #[tactic(auto, unfolding(crate::specs::Rounded::flexibility_of))]
 pub fn flexibilities(tube: &Tube, arc: &Arc) -> Result<Flexibility, IvFault>
-    requires tube { IsRound tube.now }
+    requires tube { IsRoundTube tube.now }
     requires arc { IsArc arc.now }
     ensures value { result ≡ flexibility_of tube.now arc.now }
     ensures within { IfOk result (λ f. (x : ExactArc) → EnclosesArc arc.now x → EnclosesFlexibility f tube.now x) }
@@ -61,7 +61,7 @@ pub fn flexibilities(tube: &Tube, arc: &Arc) -> Result<Flexibility, IvFault>
 
 #[tactic(auto, unfolding(crate::specs::Rounded::in_plane_of))]
 fn in_plane(tube: &Tube, arc: &Arc, i: &Integrals) -> Result<InPlane, IvFault>
-    requires tube { IsRound tube.now }
+    requires tube { IsRoundTube tube.now }
     requires arc { IsArc arc.now }
     ensures value { result ≡ in_plane_of tube.now arc.now i.now }
     ensures within { IfOk result (λ f. (x : ExactArc) → EnclosesArc arc.now x → EnclosesIntegrals i.now x → EnclosesInPlane f tube.now x) }
@@ -113,7 +113,7 @@ fn weighted(p: Iv, u: Iv, q: Iv, v: Iv) -> Result<Iv, IvFault>
 
 #[tactic(auto, unfolding(crate::specs::Rounded::across_of))]
 fn across_plane(tube: &Tube, arc: &Arc, i: &Integrals) -> Result<Across, IvFault>
-    requires tube { IsRound tube.now }
+    requires tube { IsRoundTube tube.now }
     requires arc { IsArc arc.now }
     ensures value { result ≡ across_of tube.now arc.now i.now }
     ensures within { IfOk result (λ f. (x : ExactArc) → EnclosesArc arc.now x → EnclosesIntegrals i.now x → EnclosesAcross f tube.now x) }
@@ -172,7 +172,7 @@ fn normal_centre(arc: &Arc, sine: Iv, chord_moment: Iv) -> Result<Iv, IvFault>
 /// EI/GJ.
 #[tactic(auto, unfolding(crate::specs::Rounded::twist_of))]
 fn twist(tube: &Tube) -> Result<Iv, IvFault>
-    requires { IsRound tube.now }
+    requires { IsRoundTube tube.now }
     ensures value { result ≡ twist_of tube.now }
     ensures within { IfOk result (λ e. Within e (exact_twist tube.now)) }
 {
@@ -182,7 +182,7 @@ fn twist(tube: &Tube) -> Result<Iv, IvFault>
 /// I/A, in square metres.
 #[tactic(auto, unfolding(crate::specs::Rounded::gyration_square_of))]
 fn gyration_square(tube: &Tube) -> Result<Iv, IvFault>
-    requires { IsRound tube.now }
+    requires { IsRoundTube tube.now }
     ensures value { result ≡ gyration_square_of tube.now }
     ensures within { IfOk result (λ e. Within e (gyration_square tube.now)) }
 {

@@ -2,7 +2,7 @@ ghost use Rattle.std.specs.Prelude.{◌≡◌, All, IfOk};
 ghost use Rattle.flex_interval.specs.Fraction.{Fraction, Within};
 ghost use Rattle.angle_table.specs.Pi.{pi_ends};
 ghost use Rattle.member_pairs.specs.Pairs.{EnclosesMember, IsMemberOf};
-ghost use Rattle.member_pairs.specs.Tubes.{IsRound};
+ghost use Rattle.member_pairs.specs.Tubes.{IsRoundTube};
 ghost use Rattle.member_pairs.specs.Vectors.{IsWay};
 ghost use Rattle.member_pairs.specs.declared.tube.Tube.{Tube};
 ghost use Rattle.bend_element.specs.Arcs.{IsArc, ExactArc, EnclosesArc};
@@ -35,7 +35,7 @@ pub fn bend_members(
     way: &Way,
     normal: &[Iv; 3],
 ) -> Result<[Member; 6], Wide>
-    requires tube { IsRound tube.now }
+    requires tube { IsRoundTube tube.now }
     requires arc { IsArc arc.now }
     requires way { IsWay way.now }
 

@@ -1,7 +1,7 @@
 ghost use Rattle.std.specs.Prelude.{◌≡◌, IfOk};
 ghost use Rattle.flex_interval.specs.Fraction.{Fraction, Within};
 ghost use Rattle.angle_table.specs.Pi.{pi_ends};
-ghost use Rattle.member_pairs.specs.Tubes.{IsRound};
+ghost use Rattle.member_pairs.specs.Tubes.{IsRoundTube};
 ghost use Rattle.bend_element.specs.Arcs.{IsArc, ExactArc, EnclosesArc};
 ghost use Rattle.bend_element.specs.ExactBend.{rigidity as exact_rigidity};
 ghost use Rattle.bend_element.specs.Rounded.{rigidity_of, stiffness_of};
@@ -27,7 +27,7 @@ pub struct Stiffness {
 /// EI/R.
 #[tactic(auto, unfolding(crate::specs::Rounded::rigidity_of))]
 pub fn rigidity(tube: &Tube, arc: &Arc) -> Result<Iv, IvFault>
-    requires tube { IsRound tube.now }
+    requires tube { IsRoundTube tube.now }
     requires arc { IsArc arc.now }
     ensures value { result ≡ rigidity_of tube.now arc.now }
     ensures within { IfOk result (λ e. (p : Fraction) (x : ExactArc) → Within pi_ends p → EnclosesArc arc.now x → Within e (exact_rigidity tube.now x p)) }

@@ -28,7 +28,7 @@ use Rattle.certificate.specs.RowSums.{column_size}
 use Rattle.flex_num.specs.Guarded.{zero_sum}
 use Rattle.certificate.specs.RowLists.{row_product, ListsRow, SumsRow, IsRowBeyond}
 use Rattle.lists.specs.Lists.{list_of}
-use Rattle.certificate.specs.Space.{Lists, AreListsOf}
+use Rattle.certificate.specs.Space.{CheckLists, AreListsOf}
 use Rattle.certificate.specs.RowResidual.{missed, HasResidual, IsRowLost}
 use Rattle.certificate.specs.Checker.{test_of, product_sizes, RowIsRefused, IsVerdict, Proves}
 use Rattle.certificate.proofs.ColumnLemmas.{absolute-mul}
@@ -163,7 +163,7 @@ margin-judges middle radii f shift places list row r radius (Some m) kept same p
     ((not_refused middle radii f shift list row m kept same lists has.sums has.positions has.summed margin enough, margin), enough)
 
 -- the entries of a row are those listed at its position
-pub row-listed : (f : ColumnLists) (lists : Lists) (row position : ℕ) (entries : List RowEntry) → IsFactor f → AreListsOf f lists → row < 6 * length f.order →
+pub row-listed : (f : ColumnLists) (lists : CheckLists) (row position : ℕ) (entries : List RowEntry) → IsFactor f → AreListsOf f lists → row < 6 * length f.order →
     position ≡ freedom_at (places_of lists.order) row → entries ≡ list_of lists.rows position → ListsRow f (position_of f.order row) entries
 row-listed f lists row position entries kept listed inside is_position is_entries =
     let at = is_position ∙ position-read f.order (places_of lists.order) row (ap places_of listed.order_is) inside in
@@ -171,7 +171,7 @@ row-listed f lists row position entries kept listed inside is_position is_entrie
     let there = ap (list_of lists.rows) at in
     subst P (sym (is_entries ∙ there)) (listed.rows (position_of f.order row) (position-below f.order row kept.order inside))
 
-pub position-inside : (f : ColumnLists) (lists : Lists) (row position : ℕ) → IsFactor f → AreListsOf f lists → row < 6 * length f.order →
+pub position-inside : (f : ColumnLists) (lists : CheckLists) (row position : ℕ) → IsFactor f → AreListsOf f lists → row < 6 * length f.order →
     position ≡ freedom_at (places_of lists.order) row → position < length lists.rows
 position-inside f lists row position kept listed inside is_position =
     omega (arith, is_position, position-read f.order (places_of lists.order) row (ap places_of listed.order_is) inside, position-below f.order row kept.order inside, listed.length_same)

@@ -22,9 +22,9 @@ pub struct CheckSpace {
 
 impl Model for CheckSpace {
     ghost use Rattle.std.specs.Prelude.{◌≡◌, length};
-    ghost use Rattle.certificate.specs.Space.{Lists};
+    ghost use Rattle.certificate.specs.Space.{CheckLists};
 
-    ghost Value = { Lists };
+    ghost Value = { CheckLists };
 
     ghost view = { λ s. record { order = s.order; rows = s.rows.items } };
 

@@ -5,17 +5,17 @@ use Rattle.std.proofs.lemmas.Bool.{cases_eq}
 use Rattle.lists.specs.Rising.{IsRising}
 use Rattle.lists.specs.Lists.{list_of}
 use Rattle.elim_order.specs.Graph.{eliminated}
-use Rattle.elim_order.specs.State.{AreNeighbourLists, told, IsGraph, Joins}
+use Rattle.elim_order.specs.State.{AreNeighbourLists, told, IsGraph, TakesFront}
 use Rattle.elim_order.proofs.ListLemmas.{contains_none, list_of-here, list_of-other}
 
-pub joins_none : (old new : List ℕ) (gone own : ℕ) → IsRising new → ((k : ℕ) → Contains new k ↔ (Contains old k × (k ≢ gone))) → Joins old new [] gone own
+pub joins_none : (old new : List ℕ) (gone own : ℕ) → IsRising new → ((k : ℕ) → Contains new k ↔ (Contains old k × (k ≢ gone))) → TakesFront old new [] gone own
 joins_none old new gone own up members =
     record {
       rising = up;
       members = λ k. (λ h. inl ((members k).0 h), λ h. elim h [ inl o ↦ (members k).1 o | inr (none, _) ↦ absurd (contains_none none) ]);
     }
 
-pub joins_more : (old cur new done : List ℕ) (gone own y : ℕ) → Joins old cur done gone own → IsRising new → ((k : ℕ) → Contains new k ↔ (Contains cur k ⊎ (k ≡ y))) → y ≢ own → Joins old new (done ++ y ∷ []) gone own
+pub joins_more : (old cur new done : List ℕ) (gone own y : ℕ) → TakesFront old cur done gone own → IsRising new → ((k : ℕ) → Contains new k ↔ (Contains cur k ⊎ (k ≡ y))) → y ≢ own → TakesFront old new (done ++ y ∷ []) gone own
 joins_more old cur new done gone own y j up members ne =
     record {
       rising = up;
@@ -34,7 +34,7 @@ joins_more old cur new done gone own y j up members ne =
       );
     }
 
-pub joins_skip : (old cur done : List ℕ) (gone own y : ℕ) → Joins old cur done gone own → y ≡ own → Joins old cur (done ++ y ∷ []) gone own
+pub joins_skip : (old cur done : List ℕ) (gone own y : ℕ) → TakesFront old cur done gone own → y ≡ own → TakesFront old cur (done ++ y ∷ []) gone own
 joins_skip old cur done gone own y j same =
     record {
       rising = j.rising;
@@ -61,7 +61,7 @@ joins_some_none base front node up =
       members = λ n k. (λ h. inl (h, λ (_, none). contains_none none), λ h. elim h [ inl (b, _) ↦ b | inr (none, _, _) ↦ absurd (contains_none none) ]);
     }
 
-pub joins_some_more : (base cur : List (List ℕ)) (front done new : List ℕ) (node m : ℕ) → m < length cur → JoinsSome base cur front done node → Joins (list_of cur m) new front node m → JoinsSome base (set cur m new) front (done ++ m ∷ []) node
+pub joins_some_more : (base cur : List (List ℕ)) (front done new : List ℕ) (node m : ℕ) → m < length cur → JoinsSome base cur front done node → TakesFront (list_of cur m) new front node m → JoinsSome base (set cur m new) front (done ++ m ∷ []) node
 joins_some_more base cur front done new node m lt before j =
     let here = list_of-here cur m new lt in
     record {

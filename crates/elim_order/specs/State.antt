@@ -25,7 +25,7 @@ pub record IsGraph (lists : List (List ℕ)) : Type 0 where
   pub apart : (n : ℕ) → told lists n n → ⊥
 
 -- one node goes out of a list, and others come in, but for the list's own
-pub record Joins (old new front : List ℕ) (gone own : ℕ) : Type 0 where
+pub record TakesFront (old new front : List ℕ) (gone own : ℕ) : Type 0 where
   pub rising : IsRising new
   pub members : (k : ℕ) → Contains new k ↔ ((Contains old k × (k ≢ gone)) ⊎ (Contains front k × (k ≢ own)))
 

@@ -2,7 +2,7 @@ ghost use Rattle.std.specs.Prelude.{◌≡◌, ◌≢◌, ℕ, ◌<◌, ◌≤�
 ghost use Rattle.lists.specs.Rising.{IsRising};
 ghost use Rattle.lists.specs.Lists.{contents, list_of};
 ghost use Rattle.elim_order.specs.Graph.{eliminated};
-ghost use Rattle.elim_order.specs.State.{AreNeighbourLists, told, IsGraph, Joins, InsertsUpTo};
+ghost use Rattle.elim_order.specs.State.{AreNeighbourLists, told, IsGraph, TakesFront, InsertsUpTo};
 
 use std::alloc::{AllocError, Global};
 use std::mem;
@@ -29,7 +29,7 @@ pub fn eliminate(
 fn join(list: &mut Vec<u32>, front: &[u32], gone: u32, own: u32) -> Result<(), AllocError>
     requires list { IsRising list.old.items }
     requires front { IsRising front.now }
-    ensures { OnOk result (Joins list.old.items list.new.items front.now gone own) }
+    ensures { OnOk result (TakesFront list.old.items list.new.items front.now gone own) }
 {
     remove_rising(list, gone);
     let mut place = 0;

@@ -6,7 +6,7 @@ use Rattle.int_laws.proofs.Sums.{int_sums}
 use Rattle.int_laws.proofs.Products.{square_le, square_nonnegative, le_mul, mul_comm, mul_nonnegative}
 use Rattle.model_types.specs.declared.records.Section.{Section}
 use Rattle.section_data.specs.Tube.{IsTube, square_difference, square_sum, inside_diameter}
-use Rattle.member_pairs.specs.Tubes.{IsRound}
+use Rattle.member_pairs.specs.Tubes.{IsRoundTube}
 use Rattle.member_pairs.specs.declared.tube.Tube.{Tube}
 
 inside_positive : (s : Section) → IsTube s → pos 0 ≤ℤ inside_diameter s false
@@ -31,13 +31,13 @@ pub sum_high : (s : Section) → IsTube s → square_sum s false ≤ℤ pos 8000
 sum_high s t = omega (arith, int_sums, square_le (inside_diameter s false) s.d (inside_positive s t) (inside_less s t), outside_square s t)
 
 -- ---- what a tube's numbers fit
-pub modulus_fits : (t : Tube) → IsRound t → FitsSigned w64 t.modulus
+pub modulus_fits : (t : Tube) → IsRoundTube t → FitsSigned w64 t.modulus
 modulus_fits t h = omega (arith, int_sums, h.modulus.least, h.modulus.most)
 
-pub difference_fits : (t : Tube) → IsRound t → FitsSigned w128 t.square_difference
+pub difference_fits : (t : Tube) → IsRoundTube t → FitsSigned w128 t.square_difference
 difference_fits t h = omega (arith, int_sums, h.difference_low, h.difference_high)
 
-pub load_fits : (t : Tube) → IsRound t → FitsSigned w128 (t.modulus *ℤ t.square_difference)
+pub load_fits : (t : Tube) → IsRoundTube t → FitsSigned w128 (t.modulus *ℤ t.square_difference)
 load_fits t h =
     let most = le_mul t.square_difference h.difference_low h.modulus.most in
     let high = le_mul (pos 1000000) (omega (arith, int_sums)) h.difference_high in

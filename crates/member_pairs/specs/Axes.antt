@@ -28,8 +28,8 @@ end_number from_end = 0
 end_number to_end = 1
 
 -- the place of a freedom among the twelve: `ux uy uz rx ry rz` of FROM, then of TO
-abbrev pub place_of : End → Motion → Axis → ℕ
-place_of end motion axis = 6 * end_number end + 3 * motion_number motion + axis_number axis
+abbrev pub freedom_place : End → Motion → Axis → ℕ
+freedom_place end motion axis = 6 * end_number end + 3 * motion_number motion + axis_number axis
 
 -- a value for equal axes, and one for different ones
 abbrev pub where_equal : {A : Type 0} → A → A → Axis → Axis → A

@@ -7,7 +7,7 @@ use Rattle.flex_interval.specs.Operations.{neg_of}
 use Rattle.member_set.specs.Members.{nothing}
 use Rattle.member_set.specs.declared.members.Member.{Member}
 use Rattle.model_types.specs.declared.records.Element.{Element}
-use Rattle.member_pairs.specs.Axes.{Axis, x_axis, y_axis, z_axis, Motion, translation, rotation, End, from_end, to_end, place_of}
+use Rattle.member_pairs.specs.Axes.{Axis, x_axis, y_axis, z_axis, Motion, translation, rotation, End, from_end, to_end, freedom_place}
 use Rattle.member_pairs.specs.Limits.{is_stiffness, is_moderate}
 use Rattle.member_pairs.specs.Vectors.{Exact, part}
 
@@ -26,7 +26,7 @@ shape v from to to_end rotation i = to i
 
 -- the twelve numbers enclose these
 abbrev pub EnclosesShape : List Ends → (End → Motion → Axis → Fraction) → Type 0
-EnclosesShape w exact = (p : End) (m : Motion) (i : Axis) → Within (slice_index_or w (place_of p m i) nothing) (exact p m i)
+EnclosesShape w exact = (p : End) (m : Motion) (i : Axis) → Within (slice_index_or w (freedom_place p m i) nothing) (exact p m i)
 
 -- an element's member: its stiffness, translation and rotations
 abbrev pub member : Element → Ends → List Ends → List Ends → List Ends → Member

@@ -11,7 +11,7 @@ abbrev pub tube_of : Section → Material → Tube
 tube_of s m = record { modulus = m.e; poisson_ratio = m.nu; square_difference = square_difference s false; square_sum = square_sum s false }
 
 -- a tube of a section and material in range
-pub record IsRound (t : Tube) : Type 0 where
+pub record IsRoundTube (t : Tube) : Type 0 where
   pub modulus : IsIn modulus t.modulus
   pub poisson_ratio : IsIn poisson_ratio t.poisson_ratio
   pub difference_low : pos 0 ≤ℤ t.square_difference
@@ -20,8 +20,8 @@ pub record IsRound (t : Tube) : Type 0 where
   pub sum_high : t.square_sum ≤ℤ pos (8 * 10 ^ 12)
 
 -- E (D^2 - d^2), in N for D and d in 10^-6 m
-abbrev pub load_of : Tube → ℤ
-load_of t = t.modulus *ℤ t.square_difference
+abbrev pub tube_load : Tube → ℤ
+tube_load t = t.modulus *ℤ t.square_difference
 
 -- 1 + nu, in thousandths
 abbrev pub divisor_of : Tube → ℤ

@@ -1,6 +1,6 @@
 ghost use Rattle.std.specs.Prelude.{◌≡◌, List};
 ghost use Rattle.member_set.specs.declared.members.Member.{Member};
-ghost use Rattle.member_pairs.specs.Members.{list_of};
+ghost use Rattle.member_pairs.specs.Members.{member_list};
 
 use member_set::Member;
 use std::marker::Model;
@@ -20,7 +20,7 @@ pub enum MemberArray {
 impl Model for ElementMembers {
     ghost Value = { List Member };
 
-    ghost view = { λ m. list_of m.array };
+    ghost view = { λ m. member_list m.array };
 }
 
 impl ElementMembers {

@@ -1,7 +1,7 @@
 ghost use Rattle.std.specs.Prelude.{◌≡◌, pos, ◌<ℤ◌};
 ghost use Rattle.model_types.specs.Ranges.{MaterialInForm};
 ghost use Rattle.section_data.specs.Tube.{IsTube};
-ghost use Rattle.member_pairs.specs.Tubes.{tube_of, IsRound, load_of, divisor_of};
+ghost use Rattle.member_pairs.specs.Tubes.{tube_of, IsRoundTube, tube_load, divisor_of};
 
 use model_types::{Material, Section};
 use section_data::section;
@@ -24,7 +24,7 @@ pub fn round_tube(s: &Section, m: &Material) -> Tube
     requires tube { IsTube s.now }
     requires material { MaterialInForm m.now }
     ensures value { result ≡ tube_of s.now m.now }
-    ensures round { IsRound result }
+    ensures round { IsRoundTube result }
 {
     let values = section(s, m, false);
     Tube {
@@ -37,15 +37,15 @@ pub fn round_tube(s: &Section, m: &Material) -> Tube
 
 /// E (D^2 - d^2), in N.
 pub fn load(tube: &Tube) -> i128
-    requires { IsRound tube.now }
-    ensures { result ≡ load_of tube.now }
+    requires { IsRoundTube tube.now }
+    ensures { result ≡ tube_load tube.now }
 {
     i128::from(tube.modulus) * tube.square_difference
 }
 
 /// 1 + nu, in thousandths.
 pub fn divisor(tube: &Tube) -> i128
-    requires { IsRound tube.now }
+    requires { IsRoundTube tube.now }
     ensures value { result ≡ divisor_of tube.now }
     ensures positive { pos 0 <ℤ result }
 {

@@ -3,7 +3,7 @@ use Rattle.std.proofs.Common.{◌≡◌, refl, subst, pos, slice_index_or}
 use Rattle.flex_interval.specs.Fraction.{Fraction, Within, whole, negated}
 use Rattle.member_set.specs.Members.{nothing}
 use Rattle.member_set.specs.declared.members.Member.{Member}
-use Rattle.member_pairs.specs.Axes.{Axis, x_axis, y_axis, z_axis, Motion, translation, rotation, End, from_end, to_end, place_of}
+use Rattle.member_pairs.specs.Axes.{Axis, x_axis, y_axis, z_axis, Motion, translation, rotation, End, from_end, to_end, freedom_place}
 use Rattle.member_pairs.specs.Lengths.{tangent}
 use Rattle.member_pairs.specs.Pairs.{shape, EnclosesMember}
 use Rattle.member_pairs.specs.Span.{Span}
@@ -14,7 +14,7 @@ pub shape_as : {m : Member} {k : Fraction} {x : End → Motion → Axis → Frac
     ((p : End) (n : Motion) (i : Axis) → x p n i ≡ y p n i) → EnclosesMember m k x → EnclosesMember m k y
 shape_as {m} {k} {x} y e h = record {
   stiffness = h.stiffness;
-  shape = λ p n i. subst (λ (z : Fraction). Within (slice_index_or m.w (place_of p n i) nothing) z) (e p n i) (h.shape p n i);
+  shape = λ p n i. subst (λ (z : Fraction). Within (slice_index_or m.w (freedom_place p n i) nothing) z) (e p n i) (h.shape p n i);
 }
 
 -- 0 has itself as its opposite

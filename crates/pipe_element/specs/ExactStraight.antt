@@ -4,7 +4,7 @@ use Rattle.flex_interval.specs.Fraction.{Fraction, whole, negated, scaled, over,
 use Rattle.member_pairs.specs.Axes.{Axis, Motion, translation, rotation, End, from_end, to_end, where_equal}
 use Rattle.member_pairs.specs.Lengths.{tangent, half_length}
 use Rattle.member_pairs.specs.Span.{Span, square_of}
-use Rattle.member_pairs.specs.Tubes.{load_of, divisor_of}
+use Rattle.member_pairs.specs.Tubes.{tube_load, divisor_of}
 use Rattle.member_pairs.specs.Vectors.{crossed}
 use Rattle.member_pairs.specs.declared.tube.Tube.{Tube}
 
@@ -19,7 +19,7 @@ pub data Mode : Type 0 where
 
 -- EA/L
 unfoldable pub axial_stiffness : Tube → Fraction → Fraction → Fraction
-axial_stiffness tube pi length = over (scaled pi (load_of tube) (pos 1)) (scaled length (pos 4) (pos 1)) 0
+axial_stiffness tube pi length = over (scaled pi (tube_load tube) (pos 1)) (scaled length (pos 4) (pos 1)) 0
 
 -- EI/L
 unfoldable pub bending_stiffness : Tube → Fraction → Fraction → Fraction

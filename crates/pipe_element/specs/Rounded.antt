@@ -8,7 +8,7 @@ use Rattle.member_pairs.specs.Axes.{x_axis, y_axis, z_axis}
 use Rattle.member_pairs.specs.Lengths.{tangent_of, half_of}
 use Rattle.member_pairs.specs.Limits.{is_stiffness, is_moderate}
 use Rattle.member_pairs.specs.Span.{square_of}
-use Rattle.member_pairs.specs.Tubes.{load_of, divisor_of}
+use Rattle.member_pairs.specs.Tubes.{tube_load, divisor_of}
 use Rattle.member_pairs.specs.Vectors.{parts_of, part, vector_of}
 use Rattle.member_pairs.specs.declared.tube.Tube.{Tube}
 use Rattle.member_pairs.specs.declared.way.Way.{Way}
@@ -19,7 +19,7 @@ use Rattle.pipe_element.specs.declared.stiffness.Stiffness.{Stiffness}
 
 -- EA/L
 unfoldable pub axial_of : Tube → Ends → Result Ends IvFault
-axial_of tube length = and_then (ratio_of pi_ends (load_of tube) (pos 1)) (λ p. and_then (ratio_of length (pos 4) (pos 1)) (λ l. div_of p l 0))
+axial_of tube length = and_then (ratio_of pi_ends (tube_load tube) (pos 1)) (λ p. and_then (ratio_of length (pos 4) (pos 1)) (λ l. div_of p l 0))
 
 -- EA/L, EI/L, GJ/L and 12EI/L^3
 unfoldable pub stiffness_of : Tube → Way → Ends → Result Stiffness IvFault

@@ -1,7 +1,7 @@
 ghost use Rattle.std.specs.Prelude.{◌≡◌, IfOk};
 ghost use Rattle.flex_interval.specs.Fraction.{Fraction, Within};
 ghost use Rattle.angle_table.specs.Pi.{pi_ends};
-ghost use Rattle.member_pairs.specs.Tubes.{IsRound};
+ghost use Rattle.member_pairs.specs.Tubes.{IsRoundTube};
 ghost use Rattle.member_pairs.specs.Vectors.{parts_of, IsWay};
 ghost use Rattle.pipe_element.specs.ExactStraight.{axial_stiffness};
 ghost use Rattle.pipe_element.specs.Rounded.{axial_of, stiffness_of, are_stiffnesses};
@@ -27,7 +27,7 @@ pub struct Stiffness {
 /// The stiffnesses of a tube along a way of this length.
 #[tactic(auto, unfolding(crate::specs::Rounded::stiffness_of))]
 pub fn stiffnesses(tube: &Tube, way: &Way, length: Iv) -> Result<Stiffness, IvFault>
-    requires tube { IsRound tube.now }
+    requires tube { IsRoundTube tube.now }
     requires way { IsWay way.now }
     ensures value { result ≡ stiffness_of tube.now way.now length }
     ensures within { IfOk result (λ k. (p l : Fraction) → Within pi_ends p → Within length l → EnclosesStiffness k tube.now (parts_of way.now) p l) }
@@ -47,7 +47,7 @@ pub fn stiffnesses(tube: &Tube, way: &Way, length: Iv) -> Result<Stiffness, IvFa
 /// EA/L.
 #[tactic(auto, unfolding(crate::specs::Rounded::axial_of))]
 fn axial(tube: &Tube, length: Iv) -> Result<Iv, IvFault>
-    requires { IsRound tube.now }
+    requires { IsRoundTube tube.now }
     ensures value { result ≡ axial_of tube.now length }
     ensures within { IfOk result (λ e. (p l : Fraction) → Within pi_ends p → Within length l → Within e (axial_stiffness tube.now p l)) }
 {

@@ -33,7 +33,7 @@ use Rattle.certificate.specs.Bounds.{BoundsAreLimited, HasLimitedEnds}
 use Rattle.certificate.specs.Checker.{test_of}
 use Rattle.bound_laws.specs.Definiteness.{PassedTestIsProof}
 use Rattle.structure.specs.Anchors.{IsAnchor, kind_members, restraint_members}
-use Rattle.structure.specs.Elements.{element_at, members_of}
+use Rattle.structure.specs.Elements.{element_at, members_of_element}
 use Rattle.structure.specs.Structure.{Members, element_members, model_members, with_element, then_members}
 use Rattle.structure.specs.Elements.{ElementsHaveEightMembers}
 use Rattle.report.specs.Fits.{AreAnswersOf, AreModest, FitsModel, IsModest, loads_count}
@@ -57,7 +57,7 @@ with_eight (Err number) n made members so_far eight is = absurd (cc)
 
 elements_have : ElementsHaveEightMembers → (m : Lists) (n : ℕ) (members : List Member) → element_members m n ≡ Ok members → length members ≡ 8 * n
 elements_have eight m zero members is = let same : [] ≡ members = cc in ap length (sym same)
-elements_have eight m (suc n) members is = with_eight (element_members m n) n (members_of m (element_at m n)) members (elements_have eight m n) (eight m n) is
+elements_have eight m (suc n) members is = with_eight (element_members m n) n (members_of_element m (element_at m n)) members (elements_have eight m n) (eight m n) is
 
 with_rest : (made : Members) (rest members : List Member) (n : ℕ) → ((xs : List Member) → made ≡ Ok xs → length xs ≡ n)
     → then_members made (λ xs. Ok (xs ++ rest)) ≡ Ok members → length members ≡ n + length rest

@@ -12,7 +12,7 @@ use Rattle.model_types.specs.Lists.{Lists}
 use Rattle.model_types.specs.declared.answers.Cause.{Cause}
 use Rattle.report.specs.Fits.{IsCauseIn}
 use Rattle.structure.specs.Anchors.{restraint_members}
-use Rattle.structure.specs.Elements.{element_at, members_of}
+use Rattle.structure.specs.Elements.{element_at, members_of_element}
 use Rattle.member_set.specs.declared.members.Built.{Built}
 use Rattle.solve.specs.Refinement.{Problem}
 use Rattle.structure.specs.Structure.{IsStructureOf, Members, element_members, model_members, with_element, then_members}
@@ -56,7 +56,7 @@ wide_next n number (Err k) made below e = let same : k ≡ number = cc e in omeg
 
 wide_below : (m : Lists) (n number : ℕ) → element_members m n ≡ Err number → number < n
 wide_below m zero number e = absurd (cc e)
-wide_below m (suc n) number e = wide_next n number (element_members m n) (members_of m (element_at m n)) (wide_below m n) e
+wide_below m (suc n) number e = wide_next n number (element_members m n) (members_of_element m (element_at m n)) (wide_below m n) e
 
 -- a fault stays where members are put behind
 fault_before : (made : Members) (more : List Member) (number : ℕ) → then_members made (λ members. Ok (members ++ more)) ≡ Err number → made ≡ Err number

@@ -7,7 +7,7 @@ use Rattle.flex_interval.specs.Ends.{Ends}
 use Rattle.member_set.specs.declared.members.Member.{Member}
 use Rattle.model_types.specs.Lists.{Lists}
 use Rattle.model_types.specs.declared.records.Element.{Element}
-use Rattle.structure.specs.Elements.{members_of}
+use Rattle.structure.specs.Elements.{members_of_element}
 use Rattle.text_words.specs.Fields.{line}
 
 -- the words of the line of member J: its stiffness, in 2^-20 N/m
@@ -26,7 +26,7 @@ element_lines name (Err _) = (codes "element" ∷ name ∷ codes "wide" ∷ []) 
 
 -- what is written for an element
 abbrev pub element_text : Lists → Element → List ℕ
-element_text m e = flat_map line (element_lines e.name (members_of m e))
+element_text m e = flat_map line (element_lines e.name (members_of_element m e))
 
 -- the member table: its header, each element in order, and the end
 abbrev pub table_of : Lists → List ℕ

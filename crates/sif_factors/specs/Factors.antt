@@ -9,12 +9,12 @@ use Rattle.model_types.specs.declared.records.TeeKind.{TeeKind}
 use Rattle.model_types.specs.declared.records.TeeKind.TheVariants.{Unreinforced, Pad, Coefficient}
 use Rattle.sif_factors.specs.Parts.{fraction, cubed}
 use Rattle.sif_factors.specs.Characteristic.{mean_diameter}
-use Rattle.sif_factors.specs.Rounded.{inverse_square_of, padded_of, index_of, in_plane_of, flexibility_of}
+use Rattle.sif_factors.specs.Rounded.{inverse_square_of, padded_of, index_of, in_plane_index_of, flexibility_factor_of}
 use Rattle.sif_factors.specs.declared.Factors.{Factors}
 
 -- k = max(1, 1.65/h) in 2^-56
-abbrev pub flexibility : Fraction → Fraction
-flexibility h = greater (over (fraction (pos 165) (pos 100)) h 56) (whole (pos (2 ^ 56)))
+abbrev pub flexibility_factor : Fraction → Fraction
+flexibility_factor h = greater (over (fraction (pos 165) (pos 100)) h 56) (whole (pos (2 ^ 56)))
 
 -- the cubes of 0.9, in plane at a bend and out of plane at a tee, and of 0.75, out of plane at a bend
 abbrev pub greater_cube : Fraction
@@ -26,7 +26,7 @@ lesser_cube = cubed (fraction (pos 3) (pos 4))
 -- the factors of a bend of radius r
 unfoldable pub bend_factors_of : Section → ℤ → Result Factors IvFault
 bend_factors_of s r =
-    and_then (flexibility_of (mean_diameter s *ℤ mean_diameter s) (pos 4 *ℤ (s.t *ℤ r))) (λ k.
+    and_then (flexibility_factor_of (mean_diameter s *ℤ mean_diameter s) (pos 4 *ℤ (s.t *ℤ r))) (λ k.
     and_then (inverse_square_of (mean_diameter s *ℤ mean_diameter s) (pos 4 *ℤ (s.t *ℤ r))) (λ v.
     and_then (index_of v (pos 729) (pos 1000)) (λ ii. and_then (index_of v (pos 27) (pos 64)) (λ io.
     Ok (record { k = k; ii = ii; io = io })))))
@@ -42,5 +42,5 @@ tee_inverse_square_of s (Coefficient c) = inverse_square_of (pos 500 *ℤ mean_d
 -- the factors of a tee
 unfoldable pub tee_factors_of : Section → TeeKind → Result Factors IvFault
 tee_factors_of s kind =
-    and_then (tee_inverse_square_of s kind) (λ v. and_then (index_of v (pos 729) (pos 1000)) (λ io. and_then (in_plane_of io) (λ ii.
+    and_then (tee_inverse_square_of s kind) (λ v. and_then (index_of v (pos 729) (pos 1000)) (λ io. and_then (in_plane_index_of io) (λ ii.
     Ok (record { k = point_of (pos (2 ^ 56)); ii = ii; io = io }))))

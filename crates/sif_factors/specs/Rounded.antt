@@ -27,9 +27,9 @@ index_of inverse_square n m =
     and_then (ratio_of inverse_square n m) (λ cube. and_then (cbrt_of cube 50) (λ root. Ok (max_of root (point_of (pos (2 ^ 30))))))
 
 -- three quarters of an index and one quarter
-unfoldable pub in_plane_of : Ends → Result Ends IvFault
-in_plane_of index = and_then (ratio_of index (pos 3) (pos 4)) (λ part. add_of part (point_of (pos (2 ^ 28))))
+unfoldable pub in_plane_index_of : Ends → Result Ends IvFault
+in_plane_index_of index = and_then (ratio_of index (pos 3) (pos 4)) (λ part. add_of part (point_of (pos (2 ^ 28))))
 
 -- max(1, 1.65/h) in 2^-56, for h = p / n
-unfoldable pub flexibility_of : ℤ → ℤ → Result Ends IvFault
-flexibility_of n p = and_then (ratio_of (point_of (pos 165 *ℤ n)) (pos (2 ^ 56)) (pos 100 *ℤ p)) (λ k. Ok (max_of k (point_of (pos (2 ^ 56)))))
+unfoldable pub flexibility_factor_of : ℤ → ℤ → Result Ends IvFault
+flexibility_factor_of n p = and_then (ratio_of (point_of (pos 165 *ℤ n)) (pos (2 ^ 56)) (pos 100 *ℤ p)) (λ k. Ok (max_of k (point_of (pos (2 ^ 56)))))

@@ -4,8 +4,8 @@ ghost use Rattle.flex_interval.specs.Operations.{mul_of};
 ghost use Rattle.sif_factors.specs.Parts.{fraction, in_parts, reciprocal, multiplied, squared, cubed};
 ghost use Rattle.sif_factors.specs.Inverse.{InverseInRange};
 ghost use Rattle.sif_factors.specs.Index.{EnclosesIndex};
-ghost use Rattle.sif_factors.specs.Rounded.{inverse_of, inverse_square_of, cube_of, padded_of, index_of, in_plane_of, flexibility_of};
-ghost use Rattle.sif_factors.specs.Factors.{flexibility};
+ghost use Rattle.sif_factors.specs.Rounded.{inverse_of, inverse_square_of, cube_of, padded_of, index_of, in_plane_index_of, flexibility_factor_of};
+ghost use Rattle.sif_factors.specs.Factors.{flexibility_factor};
 
 use flex_interval::{Iv, max, point, share, small_cbrt, small_product, small_sum};
 
@@ -106,22 +106,22 @@ pub fn index(v: Iv, n: i128, m: i128) -> Iv
 }
 
 /// The index in plane of a tee, three quarters of that out of plane and one quarter, in units of 2^-30.
-#[tactic(auto, unfolding(crate::specs::Rounded::in_plane_of))]
+#[tactic(auto, unfolding(crate::specs::Rounded::in_plane_index_of))]
 pub fn in_plane(io: Iv) -> Iv
     requires lo { pos 0 ≤ℤ io.lo }
     requires hi { io.hi ≤ℤ pos (2 ^ 42) }
-    ensures value { in_plane_of io ≡ Ok result }
+    ensures value { in_plane_index_of io ≡ Ok result }
     ensures within { (i : Fraction) → Within io i → Within result (plus (scaled i (pos 3) (pos 4)) (whole (pos (2 ^ 28)))) }
 {
     small_sum(share(io, 3, 4), point(1 << 28))
 }
 
 /// `max(1, 1.65/h)`, in units of 2^-56.
-#[tactic(auto, unfolding(crate::specs::Rounded::flexibility_of))]
+#[tactic(auto, unfolding(crate::specs::Rounded::flexibility_factor_of))]
 pub fn bend_flexibility(i: &Inverse) -> Iv
     requires { InverseInRange i.now }
-    ensures value { flexibility_of i.now.num i.now.den ≡ Ok result }
-    ensures within { Within result (flexibility (fraction i.now.den i.now.num)) }
+    ensures value { flexibility_factor_of i.now.num i.now.den ≡ Ok result }
+    ensures within { Within result (flexibility_factor (fraction i.now.den i.now.num)) }
 {
     let k = share(point(165 * i.num), 1 << 56, 100 * i.den);
     max(k, point(1 << 56))

@@ -7,7 +7,7 @@ ghost use Rattle.flex_interval.specs.Operations.{point_of};
 ghost use Rattle.sif_factors.specs.Parts.{squared};
 ghost use Rattle.sif_factors.specs.Characteristic.{HasBore, IsBendRadius, TeeKindInForm, bend_characteristic, tee_square};
 ghost use Rattle.sif_factors.specs.Index.{EnclosesIndex};
-ghost use Rattle.sif_factors.specs.Factors.{flexibility, greater_cube, lesser_cube, bend_factors_of, tee_factors_of};
+ghost use Rattle.sif_factors.specs.Factors.{flexibility_factor, greater_cube, lesser_cube, bend_factors_of, tee_factors_of};
 
 use flex_interval::{Iv, point};
 use model_types::{Section, TeeKind};
@@ -32,7 +32,7 @@ pub fn bend_factors(s: &Section, r: i64) -> Factors
     requires section { HasBore s.now }
     requires radius { IsBendRadius s.now r }
     ensures value { bend_factors_of s.now r ≡ Ok result }
-    ensures flexibility { Within result.k (flexibility (bend_characteristic s.now r)) }
+    ensures flexibility { Within result.k (flexibility_factor (bend_characteristic s.now r)) }
     ensures in_plane { EnclosesIndex greater_cube (squared (bend_characteristic s.now r)) result.ii }
     ensures out_of_plane { EnclosesIndex lesser_cube (squared (bend_characteristic s.now r)) result.io }
 {

@@ -23,23 +23,23 @@ use Rattle.pipe_element.specs.Rounded.{stiffness_of, shapes_of, are_stiffnesses,
 use Rattle.pipe_element.specs.Straight.{straight_of, limited, members_of as straight_members}
 use Rattle.pipe_element.specs.declared.shapes.Shapes.{Shapes}
 use Rattle.pipe_element.specs.declared.stiffness.Stiffness.{Stiffness}
-use Rattle.structure.specs.Elements.{members_of, element_at, no_element, from_of, to_of, section_of, material_of}
+use Rattle.structure.specs.Elements.{members_of_element, element_at, no_element, from_of, to_of, section_of, material_of}
 use Rattle.structure.specs.Sound.{IsSound}
 use Rattle.structure.specs.Structure.{element_members}
 
 -- ---- element by element
 
-pub element_members-next : (m : Lists) (n : ℕ) (before more : List Member) → element_members m n ≡ Ok before → members_of m (element_at m n) ≡ Ok more → element_members m (n + 1) ≡ Ok (before ++ more)
+pub element_members-next : (m : Lists) (n : ℕ) (before more : List Member) → element_members m n ≡ Ok before → members_of_element m (element_at m n) ≡ Ok more → element_members m (n + 1) ≡ Ok (before ++ more)
 element_members-next m n before more is here = rw (add-one, is, here)
 
-element_members-fault : (m : Lists) (n : ℕ) (before : List Member) (fault : Wide) → element_members m n ≡ Ok before → members_of m (element_at m n) ≡ Err fault → element_members m (suc n) ≡ Err n
+element_members-fault : (m : Lists) (n : ℕ) (before : List Member) (fault : Wide) → element_members m n ≡ Ok before → members_of_element m (element_at m n) ≡ Err fault → element_members m (suc n) ≡ Err n
 element_members-fault m n before fault is here = rw (is, here)
 
 -- a fault stays
 element_members-stays : (m : Lists) (n number : ℕ) → element_members m n ≡ Err number → element_members m (suc n) ≡ Err number
 element_members-stays m n number is = rw is
 
-pub element_members-wide : (m : Lists) (n : ℕ) (before : List Member) (fault : Wide) → element_members m n ≡ Ok before → members_of m (element_at m n) ≡ Err fault → (k : ℕ) → n < k → element_members m k ≡ Err n
+pub element_members-wide : (m : Lists) (n : ℕ) (before : List Member) (fault : Wide) → element_members m n ≡ Ok before → members_of_element m (element_at m n) ≡ Err fault → (k : ℕ) → n < k → element_members m k ≡ Err n
 element_members-wide m n before fault is here zero past = absurd (omega arith)
 element_members-wide m n before fault is here (suc k) past =
     elim (cases_eq n k) [
@@ -58,10 +58,10 @@ sound e nodes from to m is = record { first_node = rw is.first_node from; second
 -- ---- in a model
 
 -- the members of the element that stands at a place
-pub members-read : (m : Lists) (elements : List Element) (n : ℕ) (e : Element) (r : Result (List Member) Wide) → elements ≡ m.elements → n < length elements → e ≡ get_or elements n e → r ≡ members_of m e → members_of m (element_at m n) ≡ r
+pub members-read : (m : Lists) (elements : List Element) (n : ℕ) (e : Element) (r : Result (List Member) Wide) → elements ≡ m.elements → n < length elements → e ≡ get_or elements n e → r ≡ members_of_element m e → members_of_element m (element_at m n) ≡ r
 members-read m elements n e r same inside is value =
     let at : e ≡ get_or m.elements n no_element = subst (λ (xs : List Element). e ≡ get_or xs n no_element) same (get_or_read elements n e inside is no_element) in
-    sym (subst (λ (x : Element). r ≡ members_of m x) at value)
+    sym (subst (λ (x : Element). r ≡ members_of_element m x) at value)
 
 pub members-sound : (m : Lists) → IsModel m → (n : ℕ) → n < length m.elements → (more : List Member) → All (IsMemberOf (element_at m n)) more → All (IsSound (length m.nodes)) more
 members-sound m model n inside more own =
@@ -91,7 +91,7 @@ straight-count e a b s m members is =
     let w = or_wide-ok (shapes_of way l.0) (limited e k.0) members k.1 in
     limited-count e k.0 w.0 members w.1
 
-pub members-count : (m : Lists) (n : ℕ) (more : List Member) → members_of m (element_at m n) ≡ Ok more → length more ≡ 8
+pub members-count : (m : Lists) (n : ℕ) (more : List Member) → members_of_element m (element_at m n) ≡ Ok more → length more ≡ 8
 members-count m n more is =
     let e = element_at m n in
     straight-count e (from_of m e) (to_of m e) (section_of m e) (material_of m (section_of m e)) more is

@@ -15,12 +15,12 @@ anchor_stiffness (Some k) = k
 anchor_stiffness None = pos 10000000000
 
 -- the shape numbers of one freedom: exactly 2^56 on it, and nothing elsewhere
-abbrev pub along : ℕ → List Ends
-along freedom = replicate freedom nothing ++ point_of (pos (2 ^ 56)) ∷ replicate (11 - freedom) nothing
+abbrev pub unit_along : ℕ → List Ends
+unit_along freedom = replicate freedom nothing ++ point_of (pos (2 ^ 56)) ∷ replicate (11 - freedom) nothing
 
 -- the member of an anchor in one freedom of its node, with its stiffness in 2^-20 N/m
 abbrev pub anchor_member : ℕ → Option ℤ → ℕ → Member
-anchor_member node k freedom = record { n1 = node; n2 = node; kappa = point_of (anchor_stiffness k *ℤ pos (2 ^ 20)); w = along freedom }
+anchor_member node k freedom = record { n1 = node; n2 = node; kappa = point_of (anchor_stiffness k *ℤ pos (2 ^ 20)); w = unit_along freedom }
 
 -- the members of a restraint of a node: those of an anchor hold the node's three translations and its three rotations
 abbrev pub kind_members : ℕ → RestraintKind → List Member

@@ -11,7 +11,7 @@ use Rattle.model_types.specs.declared.records.Material.{Material}
 use Rattle.model_types.specs.declared.records.Node.{Node}
 use Rattle.model_types.specs.declared.records.Section.{Section}
 use Rattle.member_pairs.specs.Span.{Span}
-use Rattle.member_pairs.specs.Tubes.{tube_of as tube_of_section}
+use Rattle.member_pairs.specs.Tubes.{tube_of}
 use Rattle.member_pairs.specs.Vectors.{way_of, parts_of}
 use Rattle.member_pairs.specs.declared.tube.Tube.{Tube}
 use Rattle.pipe_element.specs.Straight.{straight_of}
@@ -47,8 +47,8 @@ abbrev pub material_of : Lists → Section → Material
 material_of m s = slice_index_or m.materials s.material.0 no_material
 
 -- an element's round tube
-abbrev pub tube_of : Lists → Element → Tube
-tube_of m e = tube_of_section (section_of m e) (material_of m (section_of m e))
+abbrev pub tube_of_element : Lists → Element → Tube
+tube_of_element m e = tube_of (section_of m e) (material_of m (section_of m e))
 
 -- the way from its first node to its second
 abbrev pub span_of : Lists → Element → Span
@@ -59,9 +59,9 @@ abbrev pub member_count : Shape → ℕ
 member_count Straight = 8
 
 -- its members, unless they leave their limits
-abbrev pub members_of : Lists → Element → Result (List Member) Wide
-members_of m e = straight_of e (from_of m e) (to_of m e) (section_of m e) (material_of m (section_of m e))
+abbrev pub members_of_element : Lists → Element → Result (List Member) Wide
+members_of_element m e = straight_of e (from_of m e) (to_of m e) (section_of m e) (material_of m (section_of m e))
 
 -- an element has eight members
 abbrev pub ElementsHaveEightMembers : Type 0
-ElementsHaveEightMembers = (m : Lists) (n : ℕ) (members : List Member) → members_of m (element_at m n) ≡ Ok members → length members ≡ 8
+ElementsHaveEightMembers = (m : Lists) (n : ℕ) (members : List Member) → members_of_element m (element_at m n) ≡ Ok members → length members ≡ 8

@@ -6,7 +6,7 @@ use Rattle.member_set.specs.declared.members.Member.{Member}
 use Rattle.member_set.specs.declared.members.Built.{Built}
 use Rattle.member_set.specs.Members.{IsBuilt, member_of, node_count}
 use Rattle.model_types.specs.Lists.{Lists}
-use Rattle.structure.specs.Elements.{members_of, element_at}
+use Rattle.structure.specs.Elements.{members_of_element, element_at}
 use Rattle.structure.specs.Anchors.{restraint_members}
 
 -- members, or the number of an element that leaves its limits
@@ -26,7 +26,7 @@ then_members (Err number) next = Err number
 -- the members of the first n elements, or the number of the first of them that leaves its limits
 abbrev pub element_members : Lists → ℕ → Members
 element_members m zero = Ok []
-element_members m (suc n) = then_members (element_members m n) (with_element n (members_of m (element_at m n)))
+element_members m (suc n) = then_members (element_members m n) (with_element n (members_of_element m (element_at m n)))
 
 -- the members of a model: of its elements in order, then of its restraints in order
 unfoldable pub model_members : Lists → Members

@@ -2,7 +2,7 @@ ghost use Rattle.std.specs.Prelude.{◌≡◌, ℕ, ◌^◌, ◌<◌, ◌≤◌,
 ghost use Rattle.std.specs.List.{flat_map};
 ghost use Rattle.flex_interval.specs.Operations.{point_of};
 ghost use Rattle.model_types.specs.Ranges.{IsStiffness, KindInForm};
-ghost use Rattle.structure.specs.Anchors.{IsAnchor, restraint_members, kind_members, anchor_member, anchor_stiffness, along};
+ghost use Rattle.structure.specs.Anchors.{IsAnchor, restraint_members, kind_members, anchor_member, anchor_stiffness, unit_along};
 ghost use Rattle.model_types.specs.declared.records.RestraintKind.TheVariants.{Anchor};
 
 use flex_interval::{Iv, point};
@@ -64,7 +64,7 @@ fn anchor_member(node: u32, k: Option<i64>, freedom: usize) -> Member
         n1: node,
         n2: node,
         kappa: stiffness(k),
-        w: along(freedom),
+        w: unit_along(freedom),
     }
 }
 
@@ -77,9 +77,9 @@ fn stiffness(k: Option<i64>) -> Iv
 }
 
 /// The shape numbers of one freedom.
-fn along(freedom: usize) -> [Iv; 12]
+fn unit_along(freedom: usize) -> [Iv; 12]
     requires { freedom < 6 }
-    ensures { result ≡ along freedom }
+    ensures { result ≡ unit_along freedom }
 {
     let mut w = [point(0); 12];
     w[freedom] = point(1 << 56);

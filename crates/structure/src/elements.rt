@@ -5,7 +5,7 @@ ghost use Rattle.model_types.specs.Rules.{Keeps};
 ghost use Rattle.model_types.specs.declared.records.Record.TheVariants as record_of;
 ghost use Rattle.section_data.specs.Tube.{IsTube};
 ghost use Rattle.member_pairs.specs.Pairs.{IsMemberOf};
-ghost use Rattle.structure.specs.Elements.{member_count, members_of, material_of, no_node, no_section};
+ghost use Rattle.structure.specs.Elements.{member_count, members_of_element, material_of, no_node, no_section};
 ghost use Rattle.structure.specs.Enclosure.{EnclosesElement};
 ghost use Rattle.structure.specs.Sound.{IsSound};
 ghost use Rattle.structure.specs.Structure.{element_members as all_of};
@@ -21,7 +21,7 @@ use std::alloc::Global;
 /// The members of an element of a model: `Wide` where they leave their limits.
 pub fn element_members(model: &Model, element: &Element) -> Result<ElementMembers, Wide>
     requires { Keeps model.now (record_of.Element element.now) }
-    ensures value { result ≡ members_of model.now element.now }
+    ensures value { result ≡ members_of_element model.now element.now }
     ensures count { IfOk result (λ members. length members ≡ member_count element.now.shape) }
     ensures few { IfOk result (λ members. length members ≤ 8) }
     ensures limits { IfOk result (λ members. All (IsMemberOf element.now) members) }

@@ -4,7 +4,7 @@ use Rattle.int_laws.specs.Sums.{sum_below}
 use Rattle.sym_blocks.specs.Matrix.{node_count, entry}
 use Rattle.lists.specs.Rows.{freedom_at}
 use Rattle.lists.specs.Order.{IsOrder, places_of}
-use Rattle.certificate.specs.Space.{Lists, AreListsOf}
+use Rattle.certificate.specs.Space.{CheckLists, AreListsOf}
 use Rattle.lists.proofs.PlaceLemmas.{length-places, places-order}
 use Rattle.certificate.proofs.CheckLemmas.{JudgesRow, lost-refused, margin-judges, row-listed, position-inside}
 use Rattle.certificate.specs.Checker.{test_of}
@@ -14,7 +14,7 @@ use Rattle.certificate.proofs.check.row_margin.Goals as goal
 pub freedom_at-position-requires-clause-numbered : goal.freedom_at-position-requires-clause-numbered
 freedom_at-position-requires-clause-numbered c = λ k d inside.
     let f = c.args.g.now in
-    let P : Lists → Type 0 = λ s. AreListsOf c.args.g.now s in
+    let P : CheckLists → Type 0 = λ s. AreListsOf c.args.g.now s in
     let lists = subst P (sym c.space.view_is) c.requires.space in
     let read = c.places.ensures.value ∙ ap places_of lists.order_is in
     let Q : List ℕ → Type 0 = λ xs. IsOrder xs in
@@ -24,14 +24,14 @@ freedom_at-position-requires-clause-numbered c = λ k d inside.
 
 pub index-requires : goal.index-requires
 index-requires c =
-    let P : Lists → Type 0 = λ s. AreListsOf c.args.g.now s in
+    let P : CheckLists → Type 0 = λ s. AreListsOf c.args.g.now s in
     let lists = subst P (sym c.space.view_is) c.requires.space in
     let position = c.freedom_at-position.ensures ∙ ap (λ (xs : List ℕ). freedom_at xs c.args.row) c.places.ensures.value in
     omega (arith, position-inside c.args.g.now _ c.args.row c.freedom_at-position.result c.requires.factor lists (omega (arith, c.requires.row, c.requires.same_size)) position, c.space.inside.rows.ok)
 
 pub residual_size-requires-clause-places : goal.residual_size-requires-clause-places
 residual_size-requires-clause-places c =
-    let P : Lists → Type 0 = λ s. AreListsOf c.args.g.now s in
+    let P : CheckLists → Type 0 = λ s. AreListsOf c.args.g.now s in
     let lists = subst P (sym c.space.view_is) c.requires.space in
     let Q : List ℕ → Type 0 = λ xs. IsOrder xs in
     subst Q (sym (c.places-2.ensures.value ∙ ap places_of lists.order_is)) (places-order c.args.g.now.order c.requires.factor.order)
@@ -39,7 +39,7 @@ residual_size-requires-clause-places c =
 pub returns-in_err-residual-clause-cases : goal.returns-in_err-residual-clause-cases
 returns-in_err-residual-clause-cases c =
     let f = c.args.g.now in
-    let P : Lists → Type 0 = λ s. AreListsOf c.args.g.now s in
+    let P : CheckLists → Type 0 = λ s. AreListsOf c.args.g.now s in
     let lists = subst P (sym c.space.view_is) c.requires.space in
     let inside : c.args.row < 6 * length c.args.g.now.order = omega (arith, c.requires.row, c.requires.same_size) in
     let position = c.freedom_at-position.ensures ∙ ap (λ (xs : List ℕ). freedom_at xs c.args.row) c.places.ensures.value in
@@ -55,7 +55,7 @@ returns-in_err-residual-clause-cases c =
 pub returns-clause-cases : goal.returns-clause-cases
 returns-clause-cases c =
     let f = c.args.g.now in
-    let P : Lists → Type 0 = λ s. AreListsOf c.args.g.now s in
+    let P : CheckLists → Type 0 = λ s. AreListsOf c.args.g.now s in
     let lists = subst P (sym c.space.view_is) c.requires.space in
     let inside : c.args.row < 6 * length c.args.g.now.order = omega (arith, c.requires.row, c.requires.same_size) in
     let position = c.freedom_at-position.ensures ∙ ap (λ (xs : List ℕ). freedom_at xs c.args.row) c.places.ensures.value in
@@ -70,13 +70,13 @@ returns-clause-cases c =
 
 pub freedom_at-position-requires-clause-inside : goal.freedom_at-position-requires-clause-inside
 freedom_at-position-requires-clause-inside c =
-    let P : Lists → Type 0 = λ s. AreListsOf c.args.g.now s in
+    let P : CheckLists → Type 0 = λ s. AreListsOf c.args.g.now s in
     let lists = subst P (sym c.space.view_is) c.requires.space in
     let same = ap length (c.places.ensures.value ∙ ap places_of lists.order_is) ∙ length-places c.args.g.now.order in
     omega (arith, same, c.requires.row, c.requires.same_size)
 
 pub residual_size-requires-clause-nodes : goal.residual_size-requires-clause-nodes
 residual_size-requires-clause-nodes c =
-    let P : Lists → Type 0 = λ s. AreListsOf c.args.g.now s in
+    let P : CheckLists → Type 0 = λ s. AreListsOf c.args.g.now s in
     let lists = subst P (sym c.space.view_is) c.requires.space in
     ap length (c.places-2.ensures.value ∙ ap places_of lists.order_is) ∙ length-places c.args.g.now.order ∙ c.requires.same_size

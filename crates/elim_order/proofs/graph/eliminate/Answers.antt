@@ -5,7 +5,7 @@ use Rattle.std.proofs.lemmas.List.Elements.{Contains-get_or}
 use Rattle.lists.specs.Rising.{IsRising}
 use Rattle.lists.specs.Lists.{contents, list_of}
 use Rattle.lists.proofs.ListsLemmas.{length-contents}
-use Rattle.elim_order.specs.State.{Joins}
+use Rattle.elim_order.specs.State.{TakesFront}
 use Rattle.elim_order.proofs.ListLemmas.{list_at, list_of-here, list_of-other}
 use Rattle.elim_order.proofs.JoinLemmas.{JoinsSome, joins_some_none, joins_some_more, joins_all}
 use Rattle.elim_order.proofs.graph.eliminate.Goals as goal
@@ -80,8 +80,8 @@ loop-own-preserved c =
     let lt' : own < length (contents vs) = omega (arith, lt, length-contents vs) in
     let same : c.deref.result.now ≡ front = c.deref.ensures.value ∙ sym c.deref-own-items.ensures.value in
     let old_is = list_at vs own c.index-neighbours-own.result lt in
-    let P : List ℕ → Type 0 = λ xs. Joins xs c.join.new.list.items c.deref.result.now node own in
-    let Q : List ℕ → Type 0 = λ xs. Joins (list_of (contents vs) own) c.join.new.list.items xs node own in
+    let P : List ℕ → Type 0 = λ xs. TakesFront xs c.join.new.list.items c.deref.result.now node own in
+    let Q : List ℕ → Type 0 = λ xs. TakesFront (list_of (contents vs) own) c.join.new.list.items xs node own in
     let joins = subst Q same (subst P (sym old_is) c.in_ok-join.ensures) in
     let next = joins_some_more (set (contents nb) node []) (contents vs) front (take i front) c.join.new.list.items node own lt' c.loop-own.invariant joins in
     let R : List (List ℕ) → Type 0 = λ ls. JoinsSome (set (contents nb) node []) ls front (take (i + 1) front) node in

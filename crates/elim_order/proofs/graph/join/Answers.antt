@@ -1,6 +1,6 @@
 use Rattle.std.proofs.Common.{ℕ, List, take, get_or, arith, subst}
 use Rattle.std.proofs.lemmas.List.{take_more, take_all}
-use Rattle.elim_order.specs.State.{Joins}
+use Rattle.elim_order.specs.State.{TakesFront}
 use Rattle.elim_order.proofs.JoinLemmas.{joins_none, joins_more, joins_skip}
 use Rattle.elim_order.proofs.graph.join.Goals as goal
 use Rattle.elim_order.proofs.graph.join.Goals.{then-node-own+in_ok-place, else-node-own}
@@ -40,5 +40,5 @@ loop-node-preserved c =
 
 pub returns : goal.returns
 returns c =
-    let P : List ℕ → Type 0 = λ xs. Joins c.args.list.now.items c.loop-node.list.items xs c.args.gone c.args.own in
+    let P : List ℕ → Type 0 = λ xs. TakesFront c.args.list.now.items c.loop-node.list.items xs c.args.gone c.args.own in
     subst P (take_all c.loop-node.node-index c.args.front.now (omega arith)) c.loop-node.invariant.joins

@@ -4,7 +4,7 @@ use Rattle.text_words.specs.Fields.{line}
 use Rattle.member_set.specs.declared.members.Member.{Member}
 use Rattle.model_types.specs.declared.records.Shape.{Shape}
 use Rattle.model_types.specs.declared.records.Shape.TheVariants.{Straight}
-use Rattle.structure.specs.Elements.{members_of, member_count}
+use Rattle.structure.specs.Elements.{members_of_element, member_count}
 use Rattle.pipeflex_top.specs.MemberTable.{element_lines}
 use Rattle.pipeflex_top.proofs.TableLemmas.{element_written}
 use Rattle.pipeflex_top.proofs.member_table.push_element.Goals as goal
@@ -16,7 +16,7 @@ pub returns-in_ok-push_kappas-in-Ok-clause-bytes : goal.returns-in_ok-push_kappa
 returns-in_ok-push_kappas-in-Ok-clause-bytes c =
     let old = c.args.out.now.items in
     let new = c.push_kappas.new.out.items in
-    let made = members_of c.args.model.now c.args.element.now in
+    let made = members_of_element c.args.model.now c.args.element.now in
     let is : made ≡ Ok c.in-Ok.members = sym c.element_members.ensures.value ∙ c.in-Ok.is in
     let kappas = rw c.as_slice.ensures at c.in_ok-push_kappas-in-Ok.ensures in
     subst (λ name. new ≡ old ++ flat_map line (element_lines name made)) c.bytes-name.ensures.bytes

@@ -3,7 +3,7 @@ use Rattle.std.proofs.lemmas.Int.{ints}
 use Rattle.std.specs.Int.{w128}
 use Rattle.flex_interval.specs.Fraction.{Within, whole}
 use Rattle.flex_interval.specs.Operations.{point_of, ratio_of}
-use Rattle.sif_factors.specs.Rounded.{flexibility_of}
+use Rattle.sif_factors.specs.Rounded.{flexibility_factor_of}
 use Rattle.sif_factors.proofs.PartLemmas.{quotient_same}
 use Rattle.sif_factors.proofs.index.bend_flexibility.Goals as goal
 
@@ -20,7 +20,7 @@ den_is c =
     rw (to_z-of_z fits) (to_z-of_z product)
 
 pub returns-clause-value : goal.returns-clause-value
-unfolding flexibility_of
+unfolding flexibility_factor_of
 returns-clause-value c =
     let k : ratio_of (point_of (pos 165 *ℤ c.args.i.now.num)) (pos (2 ^ 56)) (pos 100 *ℤ c.args.i.now.den) ≡ Ok c.share-k.result = rw (c.point.ensures.value, num_is c, den_is c) at c.share-k.ensures.value in
     rw (k, c.max.ensures.value, c.point-2.ensures.value) refl
