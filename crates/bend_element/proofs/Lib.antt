@@ -1,1 +1,4 @@
 pub mod Modes
+pub mod ArcReadings
+pub mod ArcWork
+pub mod ArcLaw

@@ -6,8 +6,10 @@ mod centre;
 mod flexibility;
 mod frame;
 mod integrals;
+mod laws;
 mod members;
 mod stiffness;
 
 pub use arc::Arc;
+pub use laws::members_are_the_arc;
 pub use members::bend_members;
