@@ -3,3 +3,4 @@ pub mod ExactBend
 pub mod Stages
 pub mod Rounded
 pub mod Bend
+pub mod Normal

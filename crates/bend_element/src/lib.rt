@@ -7,7 +7,9 @@ mod flexibility;
 mod frame;
 mod integrals;
 mod members;
+mod normal;
 mod stiffness;
 
 pub use arc::Arc;
 pub use members::bend_members;
+pub use normal::{Normal, plane_normal, unit_normal};
