@@ -1,9 +1,10 @@
 -- The unit vector across the plane of a bend.
-use Rattle.std.specs.Prelude.{ℕ, ◌+◌, ◌*◌, List, ℤ, pos, ◌-ℤ◌, ◌*ℤ◌, ◌<ℤ◌, Result, Ok, IfOk}
+use Rattle.std.specs.Prelude.{ℕ, ◌≡◌, ◌+◌, ◌*◌, ◌^◌, List, ℤ, pos, ◌-ℤ◌, ◌*ℤ◌, ◌<ℤ◌, Result, Ok, IfOk}
 use Rattle.flex_interval.specs.BestRoot.{half_shift_of}
 use Rattle.flex_interval.specs.Ends.{Ends}
 use Rattle.flex_interval.specs.Fraction.{Fraction, Within, whole, over}
 use Rattle.flex_interval.specs.Operations.{and_then, point_of, div_of, sqrt_of}
+use Rattle.flex_interval.specs.Roots.{IsNonnegative}
 use Rattle.flex_interval.specs.declared.fault.IvFault.{IvFault}
 use Rattle.model_types.specs.Ranges.{IsIn, of_size}
 use Rattle.member_pairs.specs.Axes.{Axis, x_axis, y_axis, z_axis}
@@ -64,6 +65,11 @@ unit_normal_of n = and_then (normal_length_of (normal_parts n)) (unit_parts_of n
 -- a length within the enclosure of the length
 abbrev pub IsNormalLengthWithin : Span → Fraction → Type 0
 IsNormalLengthWithin n length = IfOk (normal_length_of n) (λ e. Within e length)
+
+-- the length itself, times 2 to the shift
+pub record IsNormalLength (n : Span) (length : Fraction) : Type 0 where
+  pub nonnegative : IsNonnegative length
+  pub square : (length.num *ℤ length.num) ≡ ((square_of n *ℤ pos (2 ^ (2 * normal_shift n))) *ℤ (length.den *ℤ length.den))
 
 -- the unit vector by the length times 2^shift, in 2^-56
 unfoldable pub unit_normal : Span → ℕ → Fraction → Axis → Fraction

@@ -4,7 +4,7 @@ ghost use Rattle.flex_interval.specs.Operations.{point_of, sqrt_of};
 ghost use Rattle.model_types.specs.Ranges.{IsIn, of_size};
 ghost use Rattle.member_pairs.specs.Span.{square_of};
 ghost use Rattle.member_pairs.specs.Vectors.{IsWay, EnclosesVector};
-ghost use Rattle.bend_element.specs.Normal.{IsCornerWay, IsNormal, normal_to, normal_parts, normal_shift, unit_part_of, unit_parts_of, unit_normal_of, IsNormalLengthWithin, unit_normal as exact_unit};
+ghost use Rattle.bend_element.specs.Normal.{IsCornerWay, IsNormal, normal_to, normal_parts, normal_shift, unit_part_of, unit_parts_of, unit_normal_of, IsNormalLengthWithin, IsNormalLength, unit_normal as exact_unit};
 
 use flex_interval::{Iv, IvFault, best_root, div, point};
 use member_pairs::Way;
@@ -57,6 +57,9 @@ pub fn unit_normal(normal: &Normal) -> Result<[Iv; 3], IvFault>
     requires { IsNormal normal.now }
     ensures value { result ≡ unit_normal_of normal.now }
     ensures within { IfOk result (λ u. (l : Fraction) → IsNormalLengthWithin (normal_parts normal.now) l → EnclosesVector u (exact_unit (normal_parts normal.now) (normal_shift (normal_parts normal.now)) l)) }
+
+    // The exact length is such a length.
+    ensures length { (l : Fraction) → IsNormalLength (normal_parts normal.now) l → IsNormalLengthWithin (normal_parts normal.now) l }
 {
     let length = normal_length(normal);
     unit_parts(normal, &length)
@@ -68,6 +71,7 @@ fn normal_length(normal: &Normal) -> NormalLength
     ensures shift { result.shift ≡ normal_shift (normal_parts normal.now) }
     ensures most { result.shift ≤ 60 }
     ensures value { sqrt_of (point_of (square_of (normal_parts normal.now))) (2 * result.shift) ≡ Ok result.scaled }
+    ensures exact { (l : Fraction) → IsNormalLength (normal_parts normal.now) l → Within result.scaled l }
 {
     let (shift, scaled) = best_root(square(normal));
     NormalLength {

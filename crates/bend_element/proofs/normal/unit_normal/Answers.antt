@@ -13,3 +13,6 @@ returns-clause-value c = rw (length c, ← c.normal_length-length.ensures.shift)
 pub returns-clause-within : goal.returns-clause-within
 returns-clause-within c =
     rw (length c, ← c.normal_length-length.ensures.shift) c.unit_parts.ensures.within
+
+pub returns-clause-length : goal.returns-clause-length
+returns-clause-length c = λ l exact. rw (length c) (c.normal_length-length.ensures.exact l exact)
