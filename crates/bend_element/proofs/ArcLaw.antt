@@ -8,7 +8,7 @@ use Rattle.member_pairs.specs.Tubes.{divisor_of}
 use Rattle.member_pairs.specs.declared.tube.Tube.{Tube}
 use Rattle.bend_element.specs.Arcs.{ExactArc}
 use Rattle.bend_element.specs.ExactBend.{Mode, plane_rotation, radius_moment, chord_moment, sine_square, cosine_square, twist, gyration_square, flexibility, rotation_flexibility, radius_moment_flexibility, chord_moment_flexibility, twisted_sine, radial_flexibility, bending_square, radial_force, centre, plane_centre, normal_centre}
-use Rattle.bend_element.specs.Arc.{nil, radius, reach, plane_reach, normal_reach, pattern, work, AreSame, IsDivisible, MembersAreArc}
+use Rattle.bend_element.specs.Arc.{nil, radius, reach, plane_reach, normal_reach, pattern, work, AreSame, IsDivisible, PatternsWorkApart}
 use Rattle.bend_element.proofs.ArcReadings.{Reads, reads_whole, reads_at, reads_same, reads_scaled, reads_times, reads_plus, reads_over, reads_minus}
 use Rattle.bend_element.proofs.ArcWork.{cube, Numbers, AreRead, numerators, sum, fourth, nil_reads, work_reads, no_work, lifted, doubled, mul-zero, zero-add, add-zero}
 
@@ -297,7 +297,7 @@ apart_read {tube} {x} {n} {d} h b i j apart =
     let reads = work_reads b i j in
     own reads (no_work n (record { plane = plane_balance h b; normal = normal_balance h b }) i j apart) (nil_reads (fourth d) reads.positive)
 
-pub members_are_arc : MembersAreArc
+pub members_are_arc : PatternsWorkApart
 members_are_arc tube x h =
     let b = numbers_read tube x (parts_read h) in
     record {

@@ -2,3 +2,4 @@ pub mod Modes
 pub mod ArcReadings
 pub mod ArcWork
 pub mod ArcLaw
+pub mod NormalLemmas

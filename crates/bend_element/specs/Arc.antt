@@ -1,5 +1,5 @@
--- That the six flexibilities of a bend are those of its arc, by Castigliano's theorem: the flexibility between two patterns of
--- load is the integral, along the arc, of the products of their bending moments, torques and pulls, each by its own flexibility.
+-- Castigliano's theorem along a bend's arc: the flexibility between two patterns of load is the integral, along the arc, of the
+-- products of their bending moments, torques and pulls, each by its own flexibility.
 use Rattle.std.specs.Prelude.{◌^◌, ◌≡◌, ◌≢◌, pos, ◌*ℤ◌, ◌<ℤ◌}
 use Rattle.flex_interval.specs.Fraction.{Fraction, whole, negated, scaled, times, over, plus, minus}
 use Rattle.member_pairs.specs.declared.tube.Tube.{Tube}
@@ -92,7 +92,7 @@ pub record IsDivisible (tube : Tube) (x : ExactArc) : Type 0 where
 
 -- no two patterns work on each other, and the rotation in the plane, the force along the middle radius and the two moments each
 -- give by their own flexibility; and each elastic centre lies its reach less R cos past the middle of the chord
-pub record IsArcByMembers (tube : Tube) (x : ExactArc) : Type 0 where
+pub record WorkApart (tube : Tube) (x : ExactArc) : Type 0 where
   pub apart : (m n : Mode) → m ≢ n → AreSame (work tube x (pattern tube x m) (pattern tube x n)) nil
   pub rotation : AreSame (work tube x (pattern tube x plane_rotation) (pattern tube x plane_rotation)) (flexibility tube x plane_rotation)
   pub radial : AreSame (work tube x (pattern tube x radial_force) (pattern tube x radial_force)) (flexibility tube x radial_force)
@@ -101,5 +101,5 @@ pub record IsArcByMembers (tube : Tube) (x : ExactArc) : Type 0 where
   pub plane : AreSame (plane_centre x) (minus (plane_reach x) (times (radius x) x.cos 56))
   pub normal : AreSame (normal_centre tube x) (minus (normal_reach tube x) (times (radius x) x.cos 56))
 
-abbrev pub MembersAreArc : Type 0
-MembersAreArc = (tube : Tube) (x : ExactArc) → IsDivisible tube x → IsArcByMembers tube x
+abbrev pub PatternsWorkApart : Type 0
+PatternsWorkApart = (tube : Tube) (x : ExactArc) → IsDivisible tube x → WorkApart tube x

@@ -1,7 +1,7 @@
 -- A bend read exactly, with no rounding: a circular arc of radius R and half angle a, with bending flexibility k/EI in its
 -- plane and across it, torsional flexibility 1/GJ and axial flexibility 1/EA, and no shear deformation. Flexibilities are in
 -- multiples of R/EI, and taken at the elastic centres, where they are uncoupled.
-use Rattle.std.specs.Prelude.{ℕ, ◌^◌, ◌*◌, ℤ, pos, ◌*ℤ◌}
+use Rattle.std.specs.Prelude.{◌^◌, ◌*◌, pos, ◌*ℤ◌}
 use Rattle.flex_interval.specs.Fraction.{Fraction, whole, scaled, times, over, plus, minus}
 use Rattle.member_pairs.specs.Axes.{Axis, End, Motion}
 use Rattle.member_pairs.specs.Pairs.{shape}

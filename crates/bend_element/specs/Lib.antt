@@ -4,3 +4,4 @@ pub mod Stages
 pub mod Rounded
 pub mod Bend
 pub mod Arc
+pub mod Normal

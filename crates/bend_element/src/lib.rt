@@ -8,8 +8,10 @@ mod frame;
 mod integrals;
 mod laws;
 mod members;
+mod normal;
 mod stiffness;
 
 pub use arc::Arc;
-pub use laws::members_are_the_arc;
+pub use laws::patterns_work_apart;
 pub use members::bend_members;
+pub use normal::{Normal, plane_normal, unit_normal};
