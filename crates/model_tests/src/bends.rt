@@ -1,9 +1,12 @@
 //! The members of quarter bends and of a half circle. The numbers were computed outside the program, in exact whole numbers by
 //! the same rules; a bar's flexibility integrated section by section along the arc agrees with them to seven digits.
 ghost use Rattle.bend_element.specs.Arcs.{IsArc};
+ghost use Rattle.std.specs.Prelude.{pos, ◌<ℤ◌};
+ghost use Rattle.member_pairs.specs.Span.{square_of};
 ghost use Rattle.member_pairs.specs.Vectors.{IsWay};
+ghost use Rattle.bend_element.specs.Normal.{IsCornerWay, normal_parts, normal_to};
 
-use bend_element::{Arc, bend_members};
+use bend_element::{Arc, bend_members, plane_normal, unit_normal};
 use flex_interval::Iv;
 use member_pairs::{Tube, Way};
 use member_set::Member;
@@ -82,6 +85,95 @@ fn quarter(k: Iv) -> Arc
         k,
     }
 }
+
+// The unit vector across the plane of these ways.
+fn crosses(rt: &impl Abort, way: &Way, corner: &Way, wanted: &[Iv; 3])
+    requires way { IsWay way.now }
+    requires corner { IsCornerWay corner.now }
+    requires not_zero { pos 0 <ℤ square_of (normal_parts (normal_to way.now corner.now)) }
+{
+    let unit = unit_normal(&plane_normal(way, corner)).expect(rt, "a unit vector");
+    same_parts(rt, &unit, wanted);
+}
+
+fn same_parts(rt: &impl Abort, found: &[Iv], wanted: &[Iv]) {
+    assert!(rt; found.len() == 3 && wanted.len() == 3);
+    for number in 0..3 {
+        is_same(rt, &found[number], &wanted[number]);
+    }
+}
+
+#[test]
+fn unit_normals(rt: HostRuntime) {
+    let way = Way {
+        x: 229_000,
+        y: 229_000,
+        z: 0,
+    };
+    let corner = Way {
+        x: 229_000,
+        y: 0,
+        z: 0,
+    };
+    let down = Iv { lo: -ONE, hi: -ONE };
+    crosses(&rt, &way, &corner, &[NOTHING, NOTHING, down]);
+    let short = Way { x: 3, y: 4, z: 0 };
+    let corner = Way { x: 1, y: 1, z: 0 };
+    crosses(&rt, &short, &corner, &[NOTHING, NOTHING, down]);
+    let oblique = Way {
+        x: 1_000,
+        y: -2_000,
+        z: 3_000,
+    };
+    let corner = Way {
+        x: -4_000,
+        y: 500,
+        z: 700,
+    };
+    crosses(&rt, &oblique, &corner, &OBLIQUE);
+    let long = Way {
+        x: 17_320_508,
+        y: 17_320_508,
+        z: -17_320_508,
+    };
+    let corner = Way {
+        x: 100_000_000,
+        y: -100_000_000,
+        z: 99_999_999,
+    };
+    crosses(&rt, &long, &corner, &LONG);
+}
+
+const OBLIQUE: [Iv; 3] = [
+    Iv {
+        lo: -13_901_817_479_501_050,
+        hi: -13_901_817_479_501_049,
+    },
+    Iv {
+        lo: -60_880_373_099_883_908,
+        hi: -60_880_373_099_883_907,
+    },
+    Iv {
+        lo: -35_952_976_240_088_922,
+        hi: -35_952_976_240_088_921,
+    },
+];
+
+// The longest ways.
+const LONG: [Iv; 3] = [
+    Iv {
+        lo: -254_762_068,
+        hi: -254_762_067,
+    },
+    Iv {
+        lo: -50_952_413_252_825_147,
+        hi: -50_952_413_252_825_146,
+    },
+    Iv {
+        lo: -50_952_413_507_587_214,
+        hi: -50_952_413_507_587_213,
+    },
+];
 
 #[test]
 fn bends(rt: HostRuntime) {
