@@ -1,4 +1,4 @@
-//! The members of a circular bend: six rank-one stiffnesses that add up to an arc's.
+//! The members of a circular bend: six stiffnesses of rank one, each with its shape vector, and the unit vector across its plane.
 #![tactic(auto)]
 
 mod arc;

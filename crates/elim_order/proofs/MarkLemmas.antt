@@ -29,9 +29,6 @@ pub left_count-all : (n : ℕ) → left_count (replicate n true) ≡ n
 left_count-all zero = refl
 left_count-all (suc n) = ap suc (left_count-all n)
 
-pub marks_none : (left : List Bool) → Marks [] left left
-marks_none left = record { left = λ n. (λ l. (l, λ (i, in', is). omega arith), λ h. h.0); count = omega arith }
-
 pub marks_more : (done : List ℕ) (node : ℕ) (old cur : List Bool) → ((n : ℕ) → Contains done n → n < node) → is_left old node ≡ true → Marks done old cur → Marks (done ++ node ∷ []) old (set cur node false)
 marks_more done node old cur below l m =
     let here = (m.left node).1 (l, λ h. omega (arith, below node h)) in

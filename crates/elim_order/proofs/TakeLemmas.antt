@@ -21,9 +21,6 @@ before_place xs i n up lt (j, in', is) =
     let at : get_or xs j n ≡ n = sym (get_or-take i xs j n jl) ∙ is in
     omega (arith, at, get_or_default xs j 0 n (omega arith), up j i 0 jl lt)
 
-pub takes_none : (lists : List (List ℕ)) → TakesApart lists [] []
-takes_none lists = record { rising = λ i j d il jl. absurd (omega arith); members = λ n. (λ h. absurd (contains_none h), λ h. absurd (contains_none h.0)) }
-
 -- a node that is no neighbour of one taken is taken
 pub takes_more : (lists : List (List ℕ)) (done taken : List ℕ) (node : ℕ) → ((n : ℕ) → Contains done n → n < node) → TakesApart lists done taken → ((k : ℕ) → told lists node k → Contains taken k → ⊥) → TakesApart lists (done ++ node ∷ []) (taken ++ node ∷ [])
 takes_more lists done taken node below t free =
