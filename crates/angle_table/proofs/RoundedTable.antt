@@ -1,7 +1,7 @@
 -- The rounded cosines and sines of the table, each from those before it.
 use Rattle.std.proofs.Common.{◌≡◌, refl, lit<, lit≤, pos, Ok}
 use Rattle.int_laws.specs.Division.{floor_of, ceil_of}
-use Rattle.flex_num.proofs.RootLemmas.{root_at, root_up_at}
+use Rattle.int_laws.proofs.RootLemmas.{root_at, root_up_at}
 use Rattle.flex_interval.specs.Operations.{ends, add_of, sub_of, multiple_of, ratio_of, shifted_of, sqrt_of}
 use Rattle.angle_table.specs.HalfAngle.{cosine_of_45, cosine_of_30, half_cosine_of, half_sine_of}
 

@@ -1,7 +1,8 @@
 -- Half of a bend's angle, its cosine and its sine, by the half-angle formulas. The bend's angle is in thousandths of a degree.
 use Rattle.std.specs.Prelude.{◌≡◌, ℕ, ◌*◌, ◌^◌, Bool, ◌==◌, ◌||◌, pos, Result, Ok, if◌then◌else◌}
 use Rattle.flex_interval.specs.Ends.{Ends}
-use Rattle.flex_interval.specs.Operations.{and_then, point_of, add_of, sub_of, ratio_of, sqrt_of}
+use Rattle.flex_interval.specs.Operations.{point_of, add_of, sub_of, ratio_of, sqrt_of}
+use Rattle.lists.specs.Results.{and_then}
 use Rattle.flex_interval.specs.declared.fault.IvFault.{IvFault}
 use Rattle.angle_table.specs.Pi.{pi_ends}
 use Rattle.angle_table.specs.declared.angle.Half.{Half}

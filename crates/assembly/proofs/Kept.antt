@@ -10,7 +10,7 @@ use Rattle.flex_interval.specs.Ends.{Ends}
 use Rattle.flex_interval.specs.Fraction.{Within}
 use Rattle.member_set.specs.declared.members.Built.{Built}
 use Rattle.member_set.specs.declared.members.Law.{Law}
-use Rattle.member_set.specs.Members.{IsBuilt, node_count, system}
+use Rattle.member_set.specs.Members.{IsBuilt, built_nodes, system}
 use Rattle.member_set.specs.Realisation.{Realisation, IsRealisation, fraction, every_member, exact_entry, entry_unit}
 use Rattle.sym_blocks.specs.Matrix.{Matrix, entry}
 use Rattle.assembly.specs.Stiffness.{HasPatternOf, AreJoined, upper_entry, IsWithinRadius}
@@ -84,7 +84,7 @@ pub pattern_kept : (b : Built) (m new : Matrix) → new.pattern ≡ m.pattern �
 pattern_kept b m new same has =
     subst (λ (p : List (List ℕ)). (n k : ℕ) → Contains (slice_index_or p n []) k ↔ AreJoined b n k) (sym same) has
 
-pub joined_in_range : (b : Built) → IsBuilt b → (n k : ℕ) → AreJoined b n k → k < node_count b
+pub joined_in_range : (b : Built) → IsBuilt b → (n k : ℕ) → AreJoined b n k → k < built_nodes b
 joined_in_range b built n k joined =
     elim joined [
       | inl own ↦ omega (arith, own.0, own.1)

@@ -4,7 +4,7 @@ use Rattle.std.specs.Prelude.{◌↔◌}
 use Rattle.std.proofs.lemmas.List.{get_or-map, length-map}
 use Rattle.member_set.specs.declared.members.Member.{Member}
 use Rattle.member_set.specs.declared.members.Built.{Built}
-use Rattle.member_set.specs.Members.{IsBuilt, node_count, member_of, no_member}
+use Rattle.member_set.specs.Members.{IsBuilt, built_nodes, member_of, no_member}
 use Rattle.sym_blocks.specs.Matrix.{Matrix, HasBlock, IsLinked}
 use Rattle.assembly.specs.Stiffness.{AreJoined, HasPatternOf}
 
@@ -18,12 +18,12 @@ count : (b : Built) → length (map pair_of b.members) ≡ length b.members
 count b = length-map b.members _
 
 pub pairs_in_range : (b : Built) → IsBuilt b → (pairs : List (ℕ × ℕ)) → pairs ≡ map pair_of b.members → (k : ℕ) (d : ℕ × ℕ) → k < length pairs →
-    ((get_or pairs k d).0 < node_count b) × ((get_or pairs k d).1 < node_count b)
+    ((get_or pairs k d).0 < built_nodes b) × ((get_or pairs k d).1 < built_nodes b)
 pairs_in_range b built pairs items k d below =
     let inside : k < length b.members = omega (arith, count b, ap (λ (xs : List (ℕ × ℕ)). length xs) items) in
     rw (items, pair_at b k d inside) (built.first_node k inside, built.second_node k inside)
 
-to_joined : (b : Built) (n k : ℕ) → IsLinked (node_count b) (map pair_of b.members) n k → AreJoined b n k
+to_joined : (b : Built) (n k : ℕ) → IsLinked (built_nodes b) (map pair_of b.members) n k → AreJoined b n k
 to_joined b n k linked =
     elim linked [
       | inl own ↦ inl own
@@ -39,7 +39,7 @@ to_joined b n k linked =
       ]
     ]
 
-from_joined : (b : Built) (n k : ℕ) → AreJoined b n k → IsLinked (node_count b) (map pair_of b.members) n k
+from_joined : (b : Built) (n k : ℕ) → AreJoined b n k → IsLinked (built_nodes b) (map pair_of b.members) n k
 from_joined b n k joined =
     elim joined [
       | inl own ↦ inl own
@@ -51,8 +51,8 @@ from_joined b n k joined =
           ]
     ]
 
-pub pattern_of_pairs : (b : Built) (m : Matrix) (nodes : ℕ) (pairs : List (ℕ × ℕ)) → nodes ≡ node_count b → pairs ≡ map pair_of b.members →
+pub pattern_of_pairs : (b : Built) (m : Matrix) (nodes : ℕ) (pairs : List (ℕ × ℕ)) → nodes ≡ built_nodes b → pairs ≡ map pair_of b.members →
     ((n k : ℕ) → HasBlock m n k ↔ IsLinked nodes pairs n k) → HasPatternOf m b
 pattern_of_pairs b m nodes pairs count_is items linked n k =
-    let here : HasBlock m n k ↔ IsLinked (node_count b) (map pair_of b.members) n k = rw (← count_is, ← items) (linked n k) in
+    let here : HasBlock m n k ↔ IsLinked (built_nodes b) (map pair_of b.members) n k = rw (← count_is, ← items) (linked n k) in
     (λ has. to_joined b n k (here.0 has), λ joined. here.1 (from_joined b n k joined))

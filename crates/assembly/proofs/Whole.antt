@@ -10,7 +10,7 @@ use Rattle.int_laws.specs.Division.{floor_of}
 use Rattle.flex_interval.specs.Operations.{add_of}
 use Rattle.member_set.specs.declared.members.Member.{Member}
 use Rattle.member_set.specs.declared.members.Built.{Built}
-use Rattle.member_set.specs.Members.{nothing, Touches, IsBuilt, row_count, node_count, member_of, members_at, system}
+use Rattle.member_set.specs.Members.{nothing, Touches, IsBuilt, row_count, built_nodes, member_of, members_at, system}
 use Rattle.member_set.specs.Interval.{Outcome, in_turn}
 use Rattle.int_laws.proofs.Sums.{int_sums}
 use Rattle.int_laws.proofs.Products.{between_zeros, mul_turn, zero-mul, mul_comm, mul_swap}
@@ -38,7 +38,7 @@ not_touching m n k apart touch other =
     let second : m.n2 ≢ k = λ e. elim touch [ inl f ↦ apart (inl (f, e)) | inr f ↦ other (omega arith) ] in
     not_of m k first second
 
-outside_term : (b : Built) → IsBuilt b → (i j t : ℕ) → i / 6 < node_count b → (AreJoined b (i / 6) (j / 6) → ⊥) → t < length (members_at b (i / 6)) →
+outside_term : (b : Built) → IsBuilt b → (i j t : ℕ) → i / 6 < built_nodes b → (AreJoined b (i / 6) (j / 6) → ⊥) → t < length (members_at b (i / 6)) →
     entry_term b i j t ≡ Ok nothing
 outside_term b built i j t node_inside apart inside =
     let k = slice_index (members_at b (i / 6)) t in
@@ -47,7 +47,7 @@ outside_term b built i j t node_inside apart inside =
     rw off refl
 
 -- an entry that no member gives is exactly 0
-pub outside_value : (b : Built) → IsBuilt b → (i j : ℕ) → i / 6 < node_count b → (AreJoined b (i / 6) (j / 6) → ⊥) → upper_entry b i j ≡ Ok nothing
+pub outside_value : (b : Built) → IsBuilt b → (i j : ℕ) → i / 6 < built_nodes b → (AreJoined b (i / 6) (j / 6) → ⊥) → upper_entry b i j ≡ Ok nothing
 unfolding entry_sum floor_of
 outside_value b built i j node_inside apart =
     rw (nothing_sum (entry_term b i j) (length (members_at b (i / 6))) (λ t inside. outside_term b built i j t node_inside apart inside)) refl
@@ -110,7 +110,7 @@ pub on_err : {T E : Type 0} (r : Result T E) (P : Type 0) → is_err r ≡ true 
 on_err (Ok t) P e h = grind arith
 on_err (Err x) P e h = h
 
-exact_zero : (b : Built) → IsBuilt b → (laws : List Law) (loads : List Ends) (r : Realisation) → IsRealisation (system b laws loads) r → (i j : ℕ) → i / 6 < node_count b →
+exact_zero : (b : Built) → IsBuilt b → (laws : List Law) (loads : List Ends) (r : Realisation) → IsRealisation (system b laws loads) r → (i j : ℕ) → i / 6 < built_nodes b →
     (AreJoined b (i / 6) (j / 6) → ⊥) → exact_entry every_member r i j ≡ pos 0
 exact_zero b built laws loads r real i j node_inside apart =
     sum_below-zero r.members _
@@ -161,7 +161,7 @@ exact_symmetric r i j =
     sum_below-same r.members _ _ (λ k inside. mul_turn ((r.member k).shape i) (r.member k).stiffness ((r.member k).shape j))
 
 -- a node that is joined is there
-node_there : (b : Built) (n k : ℕ) → IsBuilt b → AreJoined b n k → n < node_count b
+node_there : (b : Built) (n k : ℕ) → IsBuilt b → AreJoined b n k → n < built_nodes b
 node_there b n k built (inl f) = f.1
 node_there b n k built (inr f) =
     elim f.2 [
@@ -170,11 +170,11 @@ node_there b n k built (inr f) =
     ]
 
 -- a matrix with a structure's pattern has the structure's nodes
-same_nodes : (b : Built) (m : Matrix) → IsBuilt b → IsSymmetricByBlocks m → HasPatternOf m b → nodes_of m ≡ node_count b
+same_nodes : (b : Built) (m : Matrix) → IsBuilt b → IsSymmetricByBlocks m → HasPatternOf m b → nodes_of m ≡ built_nodes b
 same_nodes b m built kept pattern =
-    let no_more : node_count b < nodes_of m → ⊥ = λ more.
-    let there = node_there b (node_count b) (node_count b) built ((pattern (node_count b) (node_count b)).0 (kept.own (node_count b) more)) in omega arith in
-    let no_less : nodes_of m < node_count b → ⊥ = λ less.
+    let no_more : built_nodes b < nodes_of m → ⊥ = λ more.
+    let there = node_there b (built_nodes b) (built_nodes b) built ((pattern (built_nodes b) (built_nodes b)).0 (kept.own (built_nodes b) more)) in omega arith in
+    let no_less : nodes_of m < built_nodes b → ⊥ = λ less.
     let there = kept.in_range (nodes_of m) (nodes_of m) ((pattern (nodes_of m) (nodes_of m)).1 (inl (refl, less))) in omega arith in
     omega arith
 

@@ -2,11 +2,12 @@
 use Rattle.std.specs.Prelude.{ℕ, ◌+◌, ◌/◌, ◌^◌, ◌<◌, ◌≡◌, ◌==◌, ◌||◌, ⊤, ◌⊎◌, ◌↔◌, Bool, nat_lt, length, slice_index, ℤ, pos, ◌-ℤ◌, ◌*ℤ◌, ◌≤ℤ◌, unsigned_abs, Ok, Err, IsOk, IsErr, if◌then◌else◌}
 use Rattle.int_laws.specs.Sums.{sum_below}
 use Rattle.flex_interval.specs.Ends.{Ends}
-use Rattle.flex_interval.specs.Operations.{and_then, add_of, mul_of, middle_of, radius_of}
+use Rattle.flex_interval.specs.Operations.{add_of, mul_of, middle_of, radius_of}
+use Rattle.lists.specs.Results.{and_then}
 use Rattle.flex_interval.specs.declared.fault.IvFault.TheVariants.{Wide}
 use Rattle.member_set.specs.declared.members.Member.{Member}
 use Rattle.member_set.specs.declared.members.Built.{Built}
-use Rattle.member_set.specs.Members.{nothing, shape_at, member_of, members_at, node_count, row_count}
+use Rattle.member_set.specs.Members.{nothing, shape_at, member_of, members_at, built_nodes, row_count}
 use Rattle.member_set.specs.Realisation.{Realisation}
 use Rattle.member_set.specs.Interval.{Outcome, in_turn}
 use Rattle.sym_blocks.specs.Matrix.{Matrix, node_count as nodes_of, entry, HasBlock}
@@ -59,7 +60,7 @@ Joins m n k = ((m.n1 ≡ n) × (m.n2 ≡ k)) ⊎ ((m.n1 ≡ k) × (m.n2 ≡ n))
 
 -- a node is joined with itself, and two nodes are where a member joins them
 abbrev pub AreJoined : Built → ℕ → ℕ → Type 0
-AreJoined b n k = ((n ≡ k) × (n < node_count b)) ⊎ ((t : ℕ) × (t < length b.members) × Joins (member_of b t) n k)
+AreJoined b n k = ((n ≡ k) × (n < built_nodes b)) ⊎ ((t : ℕ) × (t < length b.members) × Joins (member_of b t) n k)
 
 -- the blocks are those of the nodes that are joined
 abbrev pub HasPatternOf : Matrix → Built → Type 0
@@ -67,8 +68,8 @@ HasPatternOf m b = (n k : ℕ) → HasBlock m n k ↔ AreJoined b n k
 
 -- the middles and the radii of all members' stiffness matrix
 pub record AreAssembled (b : Built) (middles radii : Matrix) : Type 0 where
-  pub middles_nodes : nodes_of middles ≡ node_count b
-  pub radii_nodes : nodes_of radii ≡ node_count b
+  pub middles_nodes : nodes_of middles ≡ built_nodes b
+  pub radii_nodes : nodes_of radii ≡ built_nodes b
   pub middles_pattern : HasPatternOf middles b
   pub radii_pattern : HasPatternOf radii b
   pub entries : (i j : ℕ) → i < row_count b → j < row_count b → AreOf (stiffness_at b i j) (entry middles i j) (entry radii i j)

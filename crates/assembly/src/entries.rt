@@ -1,7 +1,8 @@
 ghost use Rattle.std.specs.Prelude.{◌≡◌, ℕ, ◌+◌, ◌/◌, ◌^◌, ◌<◌, length, slice_index, ℤ, pos, ◌+ℤ◌, ◌-ℤ◌, ◌*ℤ◌, ◌≤ℤ◌, ◌<ℤ◌, unsigned_abs, IfOk, List};
 ghost use Rattle.flex_interval.specs.Ends.{Ends};
 ghost use Rattle.flex_interval.specs.Fraction.{Within};
-ghost use Rattle.flex_interval.specs.Operations.{and_then, add_of, mul_of, middle_of, radius_of};
+ghost use Rattle.flex_interval.specs.Operations.{add_of, mul_of, middle_of, radius_of};
+ghost use Rattle.lists.specs.Results.{and_then};
 ghost use Rattle.member_set.specs.declared.members.Law.{Law};
 ghost use Rattle.member_set.specs.Members.{IsBuilt, shape_at, row_count, members_at, system};
 ghost use Rattle.member_set.specs.Realisation.{Realisation, IsRealisation, fraction, every_member, exact_entry, entry_unit};

@@ -1,5 +1,5 @@
 ghost use Rattle.std.specs.Prelude.{◌≡◌, ℕ, ◌+◌, ◌*◌, ◌/◌, ◌^◌, ◌<◌, ◌≤◌, unsigned_abs, IfOk, OnOk, OnErr, IsErr};
-ghost use Rattle.member_set.specs.Members.{IsBuilt, row_count, node_count};
+ghost use Rattle.member_set.specs.Members.{IsBuilt, row_count, built_nodes};
 ghost use Rattle.sym_blocks.specs.Matrix.{HasBlock};
 ghost use Rattle.assembly.specs.Stiffness.{HasPatternOf, upper_entry};
 ghost use Rattle.assembly.specs.Filling.{PutsAt, IsFilled, KeepsFilled, IsWideFrom};
@@ -41,7 +41,7 @@ fn fill_block(
 ) -> Result<(), IvFault>
     requires built { IsBuilt b.now }
     requires row_in_range { row < row_count b.now }
-    requires node_in_range { node < node_count b.now }
+    requires node_in_range { node < built_nodes b.now }
     requires middles_pattern { HasPatternOf middles.old b.now }
     requires radii_pattern { HasPatternOf radii.old b.now }
     requires joined { HasBlock middles.old (row / 6) node }

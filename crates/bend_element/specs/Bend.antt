@@ -3,7 +3,8 @@ use Rattle.std.specs.Prelude.{ℕ, List, slice_index_or, Result, IfOk}
 use Rattle.flex_interval.specs.declared.fault.Wide.{Wide}
 use Rattle.flex_interval.specs.Ends.{Ends}
 use Rattle.flex_interval.specs.Fraction.{Fraction, Within}
-use Rattle.flex_interval.specs.Operations.{and_then, or_wide}
+use Rattle.flex_interval.specs.Operations.{or_wide}
+use Rattle.lists.specs.Results.{and_then}
 use Rattle.model_types.specs.declared.records.Element.{Element}
 use Rattle.member_set.specs.Members.{no_member}
 use Rattle.member_set.specs.declared.members.Member.{Member}

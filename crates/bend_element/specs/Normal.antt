@@ -3,7 +3,8 @@ use Rattle.std.specs.Prelude.{ℕ, ◌≡◌, ◌+◌, ◌*◌, ◌^◌, List, �
 use Rattle.flex_interval.specs.BestRoot.{half_shift_of}
 use Rattle.flex_interval.specs.Ends.{Ends}
 use Rattle.flex_interval.specs.Fraction.{Fraction, Within, whole, over}
-use Rattle.flex_interval.specs.Operations.{and_then, point_of, div_of, sqrt_of}
+use Rattle.flex_interval.specs.Operations.{point_of, div_of, sqrt_of}
+use Rattle.lists.specs.Results.{and_then}
 use Rattle.flex_interval.specs.Roots.{IsNonnegative}
 use Rattle.flex_interval.specs.declared.fault.IvFault.{IvFault}
 use Rattle.model_types.specs.Ranges.{IsIn, of_size}

@@ -3,7 +3,8 @@ use Rattle.std.specs.Prelude.{◌*◌, ◌^◌, List, [], ◌∷◌, pos, ◌*�
 use Rattle.flex_interval.specs.declared.fault.IvFault.{IvFault}
 use Rattle.flex_interval.specs.declared.fault.Wide.{Wide}
 use Rattle.flex_interval.specs.Ends.{Ends}
-use Rattle.flex_interval.specs.Operations.{and_then, or_wide, point_of, add_of, sub_of, mul_of, div_of, ratio_of}
+use Rattle.flex_interval.specs.Operations.{or_wide, point_of, add_of, sub_of, mul_of, div_of, ratio_of}
+use Rattle.lists.specs.Results.{and_then}
 use Rattle.angle_table.specs.Pi.{pi_ends}
 use Rattle.model_types.specs.declared.records.Element.{Element}
 use Rattle.member_set.specs.declared.members.Member.{Member}

@@ -8,9 +8,9 @@ use Rattle.int_laws.proofs.Products.{neg-mul, mul_comm, mul_assoc, mul_mul_mul_c
 use Rattle.int_laws.proofs.SumLaws.{sum_below-le, sum_below-mul}
 use Rattle.int_laws.specs.Division.{ceil_of}
 use Rattle.int_laws.specs.Powers.{power}
-use Rattle.flex_num.specs.Root.{root_of, root_up_of}
+use Rattle.int_laws.specs.Root.{root_of, root_up_of}
 use Rattle.int_laws.proofs.DivisionLemmas.{ceil_of-is}
-use Rattle.flex_num.proofs.RootLemmas.{root_up_of-is}
+use Rattle.int_laws.proofs.RootLemmas.{root_up_of-is}
 use Rattle.flex_interval.specs.Ends.{Ends}
 use Rattle.flex_interval.specs.Fraction.{Within}
 use Rattle.member_set.specs.Members.{member_of}

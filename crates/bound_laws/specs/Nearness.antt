@@ -7,7 +7,7 @@ use Rattle.std.specs.Prelude.{ℕ, ◌^◌, ◌<◌, ◌≡◌, List, length, sl
 use Rattle.std.specs.Int.{int_max}
 use Rattle.int_laws.specs.Sums.{sum_below}
 use Rattle.int_laws.specs.Division.{ceil_of}
-use Rattle.flex_num.specs.Root.{root_up_of}
+use Rattle.int_laws.specs.Root.{root_up_of}
 use Rattle.flex_interval.specs.Ends.{Ends}
 use Rattle.flex_interval.specs.Fraction.{Within}
 use Rattle.member_set.specs.declared.members.Built.{Built}

@@ -1,8 +1,8 @@
 -- The diagonal of a factor is positive: it has the roots of the pivots, which are at least 1.
 use Rattle.std.proofs.Common.{ℕ, ◌*◌, ◌/◌, ◌<◌, List, Option, length, ap, arith, ℤ, pos, ◌≤ℤ◌, ◌<ℤ◌}
 use Rattle.std.proofs.lemmas.Int.{ints}
-use Rattle.flex_num.specs.Root.{root_of}
-use Rattle.flex_num.proofs.RootLemmas.{root_of-is}
+use Rattle.int_laws.specs.Root.{root_of}
+use Rattle.int_laws.proofs.RootLemmas.{root_of-is}
 use Rattle.cholesky_laws.specs.Recurrence.{pivot}
 use Rattle.cholesky_laws.proofs.RecurrenceLemmas.{cholesky-diagonal}
 use Rattle.factor_data.specs.Columns.{ColumnLists}

@@ -3,10 +3,11 @@ use Rattle.std.proofs.Common.{◌≡◌, ℕ, ◌+◌, ◌*◌, ◌^◌, ◌<◌
 use Rattle.std.proofs.lemmas.Int.{ints}
 use Rattle.std.proofs.lemmas.Bool.Decides.{nat_tests}
 use Rattle.flex_interval.specs.Ends.{Ends}
-use Rattle.flex_interval.specs.Operations.{and_then, middle_of, radius_of}
+use Rattle.flex_interval.specs.Operations.{middle_of, radius_of}
+use Rattle.lists.specs.Results.{and_then}
 use Rattle.flex_interval.specs.declared.fault.IvFault.TheVariants.{Wide}
 use Rattle.member_set.specs.declared.members.Built.{Built}
-use Rattle.member_set.specs.Members.{node_count as nodes_of, row_count}
+use Rattle.member_set.specs.Members.{built_nodes as nodes_of, row_count}
 use Rattle.member_set.specs.Interval.{Outcome}
 use Rattle.sym_blocks.specs.Matrix.{Matrix, node_count, entry, IsSymmetricByBlocks}
 use Rattle.assembly.specs.Stiffness.{AreAssembled, limited_entry, entry_sum}

@@ -14,7 +14,7 @@ use Rattle.model_types.specs.declared.answers.CaseAnswer.{CaseAnswer}
 use Rattle.model_types.specs.declared.answers.CaseAnswer.TheVariants.{Certified, Uncertified}
 use Rattle.sym_blocks.specs.Matrix.{Matrix, entry}
 use Rattle.assembly.specs.Stiffness.{AreAssembled}
-use Rattle.factor_data.specs.Columns.{ColumnLists, entry as factor_entry}
+use Rattle.factor_data.specs.Columns.{ColumnLists, factor_entry}
 use Rattle.lists.specs.Order.{IsOrder}
 use Rattle.solve.specs.Refinement.{problem, LeadTo, IsTooWide}
 use Rattle.certificate.specs.declared.bounds.Enclosure.{Enclosure}

@@ -5,7 +5,7 @@ use Rattle.std.proofs.lemmas.Bool.{cases_lt}
 use Rattle.std.proofs.lemmas.Int.{ints}
 use Rattle.int_laws.proofs.SumLaws.{sum_below-same}
 use Rattle.int_laws.specs.Division.{nearest_of}
-use Rattle.flex_num.specs.Root.{root_of}
+use Rattle.int_laws.specs.Root.{root_of}
 use Rattle.model_types.specs.declared.answers.Cause.{Cause}
 use Rattle.model_types.specs.declared.answers.Cause.TheVariants as causes
 use Rattle.sym_blocks.specs.Matrix.{Matrix}

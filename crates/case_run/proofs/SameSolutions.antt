@@ -6,18 +6,18 @@ use Rattle.std.proofs.lemmas.List.Elements.{All-get_or}
 use Rattle.int_laws.specs.Sums.{sum_below}
 use Rattle.int_laws.proofs.Sums.{int_sums}
 use Rattle.int_laws.proofs.SumLaws.{sum_below-same, sum_below-nonnegative}
-use Rattle.cholesky_laws.proofs.SumsLemmas.{sum_below-split}
+use Rattle.int_laws.proofs.SumLaws.{sum_below-split}
 use Rattle.int_laws.specs.Division.{nearest_of}
 use Rattle.flex_interval.specs.Ends.{Ends}
 use Rattle.member_set.specs.declared.members.Law.{Law}
 use Rattle.member_set.specs.declared.members.Built.{Built}
 use Rattle.member_set.specs.Members.{row_count, system}
 use Rattle.member_set.specs.Interval.{Outcome, residual_of}
-use Rattle.factor_data.specs.Columns.{entry}
+use Rattle.factor_data.specs.Columns.{factor_entry}
 use Rattle.factor_data.specs.Columns.{ColumnLists}
 use Rattle.lists.specs.Rows.{freedom_at, position_of}
 use Rattle.lists.specs.Order.{IsOrder}
-use Rattle.factor_data.proofs.OrderLemmas.{position-below, row-of_position, row-below}
+use Rattle.lists.proofs.RowLemmas.{position-below, row-of_position, row-below}
 use Rattle.solve.specs.Substitution.{at, IsForwardBelow, IsForward, ForwardBreaks, forward_size, IsBackwardFrom, IsBackward, BackwardBreaks}
 use Rattle.int_laws.specs.Matrices.{Entries, Vector, absolute}
 use Rattle.solve.specs.Numerators.{past}
@@ -180,7 +180,7 @@ moved-excludes n order other u z y v ordered size same unknowns one moderate far
 -- the same order and the same entries
 pub record AreAlikeFactors (n : ℕ) (f g : ColumnLists) : Type 0 where
   pub order : f.order ≡ g.order
-  pub entries : AreAlike n (entry f) (entry g)
+  pub entries : AreAlike n (factor_entry f) (factor_entry g)
 
 sides-forward : (o p : List ℕ) (r s : List ℤ) (d e k : ℕ) → o ≡ p → r ≡ s → d ≡ e → forward_side o r d k ≡ forward_side p s e k
 sides-forward o p r s d e k orders numbers digits =
@@ -190,17 +190,17 @@ sides-backward : (y z : List ℤ) (d e k : ℕ) → y ≡ z → d ≡ e → back
 sides-backward y z d e k numbers digits = ap (λ (x : List ℤ). backward_side x d k) numbers ∙ ap (λ (x : ℕ). backward_side z x k) digits
 
 pub turn-same : (b : Built) (laws : List Law) (loads : List Ends) (f g : ColumnLists) (u v w : List ℤ) → IsOrder f.order → 6 * length f.order ≡ row_count b →
-    AreAlikeFactors (row_count b) f g → IsTurn (problem (system b laws loads) f.order (entry f)) u v → IsTurn (problem (system b laws loads) g.order (entry g)) u w → v ≡ w
+    AreAlikeFactors (row_count b) f g → IsTurn (problem (system b laws loads) f.order (factor_entry f)) u v → IsTurn (problem (system b laws loads) g.order (factor_entry g)) u w → v ≡ w
 turn-same b laws loads f g u v w ordered size alike one two =
     let n = row_count b in
     let r = middles-same n (residual_of (system b laws loads) u) one.r two.r one.middles two.middles in
     let digits = scale-same one.r two.r one.digits two.digits r one.scale two.scale in
-    let y = forward-same n (entry f) (entry g) _ _ one.y two.y alike.entries (λ k l. sides-forward f.order g.order one.r two.r one.digits two.digits k alike.order r digits) one.forward two.forward in
-    let z = backward-same n (entry f) (entry g) _ _ one.z two.z alike.entries (λ k l. sides-backward one.y two.y one.digits two.digits k y digits) one.backward two.backward in
+    let y = forward-same n (factor_entry f) (factor_entry g) _ _ one.y two.y alike.entries (λ k l. sides-forward f.order g.order one.r two.r one.digits two.digits k alike.order r digits) one.forward two.forward in
+    let z = backward-same n (factor_entry f) (factor_entry g) _ _ one.z two.z alike.entries (λ k l. sides-backward one.y two.y one.digits two.digits k y digits) one.backward two.backward in
     moved-same n f.order g.order u one.z two.z v w ordered size alike.order z one.moved two.moved
 
 turn-excludes : (b : Built) (laws : List Law) (loads : List Ends) (f g : ColumnLists) (u v : List ℤ) → IsOrder f.order → 6 * length f.order ≡ row_count b →
-    AreAlikeFactors (row_count b) f g → IsTurn (problem (system b laws loads) f.order (entry f)) u v → TurnBreaks (problem (system b laws loads) g.order (entry g)) u → ⊥
+    AreAlikeFactors (row_count b) f g → IsTurn (problem (system b laws loads) f.order (factor_entry f)) u v → TurnBreaks (problem (system b laws loads) g.order (factor_entry g)) u → ⊥
 turn-excludes b laws loads f g u v ordered size alike one (no_residual none) = middles-exclude (row_count b) (residual_of (system b laws loads) u) one.r one.middles none
 turn-excludes b laws loads f g u v ordered size alike one (no_room r middles none) =
     scale-excludes one.r r one.digits (middles-same (row_count b) (residual_of (system b laws loads) u) one.r r one.middles middles) one.scale none
@@ -208,43 +208,43 @@ turn-excludes b laws loads f g u v ordered size alike one (forward_broad r digit
     let n = row_count b in
     let same = middles-same n (residual_of (system b laws loads) u) one.r r one.middles middles in
     let scales = scale-same one.r r one.digits digits same one.scale scale in
-    forward-excludes n (entry f) (entry g) _ _ one.y alike.entries (λ k l. sides-forward f.order g.order one.r r one.digits digits k alike.order same scales) one.forward breaks
+    forward-excludes n (factor_entry f) (factor_entry g) _ _ one.y alike.entries (λ k l. sides-forward f.order g.order one.r r one.digits digits k alike.order same scales) one.forward breaks
 turn-excludes b laws loads f g u v ordered size alike one (backward_broad r digits y middles scale forward breaks) =
     let n = row_count b in
     let same = middles-same n (residual_of (system b laws loads) u) one.r r one.middles middles in
     let scales = scale-same one.r r one.digits digits same one.scale scale in
-    let ys = forward-same n (entry f) (entry g) _ _ one.y y alike.entries (λ k l. sides-forward f.order g.order one.r r one.digits digits k alike.order same scales) one.forward forward in
-    backward-excludes n (entry f) (entry g) _ _ one.z alike.entries (λ k l. sides-backward one.y y one.digits digits k ys scales) one.backward breaks
+    let ys = forward-same n (factor_entry f) (factor_entry g) _ _ one.y y alike.entries (λ k l. sides-forward f.order g.order one.r r one.digits digits k alike.order same scales) one.forward forward in
+    backward-excludes n (factor_entry f) (factor_entry g) _ _ one.z alike.entries (λ k l. sides-backward one.y y one.digits digits k ys scales) one.backward breaks
 turn-excludes b laws loads f g u v ordered size alike one (too_far r digits y z middles scale forward backward far) =
     let n = row_count b in
     let same = middles-same n (residual_of (system b laws loads) u) one.r r one.middles middles in
     let scales = scale-same one.r r one.digits digits same one.scale scale in
-    let ys = forward-same n (entry f) (entry g) _ _ one.y y alike.entries (λ k l. sides-forward f.order g.order one.r r one.digits digits k alike.order same scales) one.forward forward in
-    let zs = backward-same n (entry f) (entry g) _ _ one.z z alike.entries (λ k l. sides-backward one.y y one.digits digits k ys scales) one.backward backward in
+    let ys = forward-same n (factor_entry f) (factor_entry g) _ _ one.y y alike.entries (λ k l. sides-forward f.order g.order one.r r one.digits digits k alike.order same scales) one.forward forward in
+    let zs = backward-same n (factor_entry f) (factor_entry g) _ _ one.z z alike.entries (λ k l. sides-backward one.y y one.digits digits k ys scales) one.backward backward in
     moved-excludes n f.order g.order u one.z z v ordered size alike.order zs one.moved one.moderate far
 
 -- ---- the turns
 pub lead-same : (b : Built) (laws : List Law) (loads : List Ends) (f g : ColumnLists) (n : ℕ) (v w : List ℤ) → IsOrder f.order → 6 * length f.order ≡ row_count b →
-    AreAlikeFactors (row_count b) f g → LeadTo (problem (system b laws loads) f.order (entry f)) n v → LeadTo (problem (system b laws loads) g.order (entry g)) n w → v ≡ w
+    AreAlikeFactors (row_count b) f g → LeadTo (problem (system b laws loads) f.order (factor_entry f)) n v → LeadTo (problem (system b laws loads) g.order (factor_entry g)) n w → v ≡ w
 lead-same b laws loads f g zero v w ordered size alike one two = one ∙ sym two
 lead-same b laws loads f g (suc n) v w ordered size alike one two =
     let before = lead-same b laws loads f g n one.0 two.0 ordered size alike one.1 two.1 in
-    turn-same b laws loads f g two.0 v w ordered size alike (subst (λ (u : List ℤ). IsTurn (problem (system b laws loads) f.order (entry f)) u v) before one.2) two.2
+    turn-same b laws loads f g two.0 v w ordered size alike (subst (λ (u : List ℤ). IsTurn (problem (system b laws loads) f.order (factor_entry f)) u v) before one.2) two.2
 
-lead-before : (b : Built) (laws : List Law) (loads : List Ends) (f : ColumnLists) (n t : ℕ) (v : List ℤ) → t < n → LeadTo (problem (system b laws loads) f.order (entry f)) n v →
-    (u : List ℤ) × LeadTo (problem (system b laws loads) f.order (entry f)) t u × ((w : List ℤ) × IsTurn (problem (system b laws loads) f.order (entry f)) u w)
+lead-before : (b : Built) (laws : List Law) (loads : List Ends) (f : ColumnLists) (n t : ℕ) (v : List ℤ) → t < n → LeadTo (problem (system b laws loads) f.order (factor_entry f)) n v →
+    (u : List ℤ) × LeadTo (problem (system b laws loads) f.order (factor_entry f)) t u × ((w : List ℤ) × IsTurn (problem (system b laws loads) f.order (factor_entry f)) u w)
 lead-before b laws loads f zero t v below lead = absurd (omega arith)
 lead-before b laws loads f (suc n) t v below lead =
     elim (cases_lt t n) [
       | inl less ↦ lead-before b laws loads f n t lead.0 less lead.1
       | inr not_less ↦
           let here : n ≡ t = omega arith in
-          (lead.0, subst (λ (m : ℕ). LeadTo (problem (system b laws loads) f.order (entry f)) m lead.0) here lead.1, (v, lead.2))
+          (lead.0, subst (λ (m : ℕ). LeadTo (problem (system b laws loads) f.order (factor_entry f)) m lead.0) here lead.1, (v, lead.2))
     ]
 
 pub candidate-excludes : (b : Built) (laws : List Law) (loads : List Ends) (f g : ColumnLists) (v : List ℤ) → IsOrder f.order → 6 * length f.order ≡ row_count b →
-    AreAlikeFactors (row_count b) f g → LeadTo (problem (system b laws loads) f.order (entry f)) 8 v → IsTooWide (problem (system b laws loads) g.order (entry g)) → ⊥
+    AreAlikeFactors (row_count b) f g → LeadTo (problem (system b laws loads) f.order (factor_entry f)) 8 v → IsTooWide (problem (system b laws loads) g.order (factor_entry g)) → ⊥
 candidate-excludes b laws loads f g v ordered size alike lead wide =
     let before = lead-before b laws loads f 8 wide.turns v wide.before lead in
     let same = lead-same b laws loads f g wide.turns before.0 wide.u ordered size alike before.1 wide.reached in
-    turn-excludes b laws loads f g wide.u before.2.0 ordered size alike (subst (λ (u : List ℤ). IsTurn (problem (system b laws loads) f.order (entry f)) u before.2.0) same before.2.1) wide.breaks
+    turn-excludes b laws loads f g wide.u before.2.0 ordered size alike (subst (λ (u : List ℤ). IsTurn (problem (system b laws loads) f.order (factor_entry f)) u before.2.0) same before.2.1) wide.breaks

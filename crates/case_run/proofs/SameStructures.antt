@@ -13,10 +13,10 @@ use Rattle.model_types.specs.declared.answers.Cause.TheVariants as causes
 use Rattle.sym_blocks.specs.Matrix.{Matrix, entry}
 use Rattle.assembly.specs.Stiffness.{stiffness_at, AreAssembled, IsFirstWide}
 use Rattle.flex_interval.specs.Operations.{middle_of, radius_of}
-use Rattle.cholesky_laws.specs.Recurrence.{scaled}
+use Rattle.cholesky_laws.specs.Recurrence.{scaled_stiffness}
 use Rattle.lists.specs.Rows.{freedom_at}
 use Rattle.lists.specs.Order.{IsOrder}
-use Rattle.factor_data.proofs.OrderLemmas.{row-below}
+use Rattle.lists.proofs.RowLemmas.{row-below}
 use Rattle.factor.specs.State.{matrix_of}
 use Rattle.lists.proofs.UniqueLemmas.{rising_unique}
 use Rattle.structure.specs.Structure.{IsStructureOf, model_members}
@@ -96,7 +96,7 @@ matrix_cause-one b c d (matrix_row row wide) (matrix_row other wide_too) =
 -- what is factorised has the same entries
 pub factorised-alike : (order : List ℕ) (shift : ℤ) (k l : Matrix) → IsOrder order → AreAlike (6 * length order) (entry k) (entry l) →
     AreAlike (6 * length order) (matrix_of k order shift) (matrix_of l order shift)
-unfolding scaled
+unfolding scaled_stiffness
 factorised-alike order shift k l ordered alike i j i_in j_in =
     ap (λ (z : ℤ). pos (2 ^ 52) *ℤ (z -ℤ (if nat_eq i j then shift else pos 0)))
     (alike (freedom_at order i) (freedom_at order j) (row-below order i ordered i_in) (row-below order j ordered j_in))

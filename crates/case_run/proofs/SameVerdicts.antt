@@ -8,9 +8,9 @@ use Rattle.int_laws.proofs.SumLaws.{sum_below-same}
 use Rattle.sym_blocks.specs.Matrix.{Matrix as Blocks, node_count, entry as block_entry}
 use Rattle.lists.specs.Rows.{position_of}
 use Rattle.lists.specs.Order.{IsOrder}
-use Rattle.factor_data.specs.Columns.{entry}
+use Rattle.factor_data.specs.Columns.{factor_entry}
 use Rattle.factor_data.specs.Columns.{ColumnLists}
-use Rattle.factor_data.proofs.OrderLemmas.{position-below}
+use Rattle.lists.proofs.RowLemmas.{position-below}
 use Rattle.int_laws.specs.Matrices.{absolute, scalar_matrix}
 use Rattle.bound_laws.specs.Definiteness.{CholeskyTest, residual, row_margin}
 use Rattle.certificate.specs.Checker.{test_of, product_sizes, RowIsRefused, IsVerdict}
@@ -132,5 +132,5 @@ tests-alike n k l r s f g shift k_size l_size ordered size middles radii factors
       radius = λ i j i_in j_in. radii i j (within i i_in) (within j j_in);
       factor = λ i c i_in c_in.
           factors.entries (position_of f.order i) c (column (position_of f.order i) (position-below f.order i ordered (place i (within i i_in)))) (column c c_in)
-          ∙ ap (λ (o : List ℕ). entry g (position_of o i) c) factors.order;
+          ∙ ap (λ (o : List ℕ). factor_entry g (position_of o i) c) factors.order;
     }

@@ -6,7 +6,7 @@ use Rattle.flex_interval.specs.Ends.{Ends}
 use Rattle.member_set.specs.declared.members.Built.{Built}
 use Rattle.member_set.specs.declared.members.Law.{Law}
 use Rattle.member_set.specs.declared.members.Member.{Member}
-use Rattle.member_set.specs.Members.{IsSystem, node_count as nodes_of, load_of, system}
+use Rattle.member_set.specs.Members.{IsSystem, built_nodes as nodes_of, load_of, system}
 use Rattle.member_set.specs.Realisation.{Realisation, IsRealisation}
 use Rattle.model_types.specs.Lists.{Lists}
 use Rattle.model_types.specs.declared.answers.Cause.{Cause}

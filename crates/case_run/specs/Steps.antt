@@ -2,14 +2,14 @@
 use Rattle.std.specs.Prelude.{◌≡◌, ℕ, ◌*◌, ◌^◌, ◌<◌, ◌≤◌, ⊤, List, length, Option, ℤ, pos, ◌-ℤ◌, ◌*ℤ◌, ◌≤ℤ◌, ◌<ℤ◌, unsigned_abs}
 use Rattle.model_types.specs.declared.answers.Cause.{Cause}
 use Rattle.sym_blocks.specs.Matrix.{Matrix, node_count, entry}
-use Rattle.factor_data.specs.Columns.{entry as factor_entry}
+use Rattle.factor_data.specs.Columns.{factor_entry}
 use Rattle.factor_data.specs.Columns.{ColumnLists}
 use Rattle.lists.specs.Order.{IsOrder}
 use Rattle.elimination.specs.Elimination.{AreParents}
 use Rattle.int_laws.specs.Matrices.{absolute}
 use Rattle.bound_laws.specs.Definiteness.{SymmetricFractions, IsDefiniteWith}
 use Rattle.member_set.specs.declared.members.Built.{Built}
-use Rattle.member_set.specs.Members.{node_count as nodes_of}
+use Rattle.member_set.specs.Members.{built_nodes as nodes_of}
 use Rattle.case_run.specs.declared.fault.CaseFault.{CaseFault}
 use Rattle.case_run.specs.declared.fault.CaseFault.TheVariants as faults
 

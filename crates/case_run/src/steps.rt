@@ -1,6 +1,6 @@
 ghost use Rattle.std.specs.Prelude.{◌≡◌, ◌<◌, ◌≤◌, ℕ, length, [], IfOk, IfErr, ℤ, pos, ◌≤ℤ◌, ◌^◌, List};
 ghost use Rattle.flex_interval.specs.Ends.{Ends};
-ghost use Rattle.member_set.specs.Members.{IsBuilt, node_count, row_count, system};
+ghost use Rattle.member_set.specs.Members.{IsBuilt, built_nodes, row_count, system};
 ghost use Rattle.member_set.specs.Realisation.{Realisation, IsRealisation, every_member, exact_entry, entry_unit};
 ghost use Rattle.assembly.specs.Stiffness.{AreAssembled, IsWithinRadius};
 ghost use Rattle.sym_blocks.specs.Matrix.{entry};
@@ -23,8 +23,8 @@ pub(crate) fn matrices_of(alloc: Global, b: &Built) -> Result<(SymBlocks, SymBlo
     requires built { IsBuilt b.now }
     requires linear { b.now.unilateral ≡ [] }
     ensures assembled { IfOk result (λ m. AreAssembled b.now m.0 m.1) }
-    ensures factorable { IfOk result (λ m. IsFactorable (node_count b.now) m.0) }
-    ensures radii { IfOk result (λ m. IsRadiusMatrix (node_count b.now) m.1) }
+    ensures factorable { IfOk result (λ m. IsFactorable (built_nodes b.now) m.0) }
+    ensures radii { IfOk result (λ m. IsRadiusMatrix (built_nodes b.now) m.1) }
     ensures within { IfOk result (λ m. (loads : List Ends) (r : Realisation) → IsRealisation (system b.now (resting_laws b.now) loads) r →
         (i j : ℕ) → i < row_count b.now → j < row_count b.now →
         IsWithinRadius (entry_unit r.denominator) (exact_entry every_member r i j) (entry m.0 i j) (entry m.1 i j)) }

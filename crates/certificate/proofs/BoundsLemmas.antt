@@ -11,7 +11,7 @@ use Rattle.int_laws.specs.Division.{IsCeiling}
 use Rattle.int_laws.proofs.DivisionLemmas.{ceiling_least}
 use Rattle.flex_interval.specs.Ends.{Ends}
 use Rattle.flex_interval.specs.Fraction.{Within}
-use Rattle.flex_interval.specs.Operations.{and_then}
+use Rattle.lists.specs.Results.{and_then}
 use Rattle.member_set.specs.declared.members.Member.{Member}
 use Rattle.member_set.specs.declared.members.Law.{Law}
 use Rattle.member_set.specs.declared.members.Built.{Built}

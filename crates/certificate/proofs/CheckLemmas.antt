@@ -1,5 +1,5 @@
 -- From the sums of the code to the test.
-use Rattle.std.proofs.Common.{◌≡◌, ℕ, ◌+◌, ◌*◌, ◌/◌, ◌^◌, ◌<◌, ◌≤◌, ◌⊎◌, inl, inr, sym, ◌∙◌, ap, subst, arith, ℤ, pos, ◌-ℤ◌, ◌*ℤ◌, ◌≤ℤ◌, ◌<ℤ◌, List, length, get_or, min}
+use Rattle.std.proofs.Common.{slice_index_or, ◌≡◌, ℕ, ◌+◌, ◌*◌, ◌/◌, ◌^◌, ◌<◌, ◌≤◌, ◌⊎◌, inl, inr, sym, ◌∙◌, ap, subst, arith, ℤ, pos, ◌-ℤ◌, ◌*ℤ◌, ◌≤ℤ◌, ◌<ℤ◌, List, length, get_or, min}
 use Rattle.std.proofs.lemmas.Int.{ints}
 use Rattle.std.proofs.lemmas.List.{get_or_default}
 use Rattle.std.specs.Prelude.{MatchOption, Option, Some, None}
@@ -13,12 +13,12 @@ use Rattle.int_laws.proofs.Sums.{int_sums}
 use Rattle.int_laws.proofs.SumLaws.{sum_below-same, sum_below-nonnegative}
 use Rattle.sym_blocks.specs.Matrix.{Matrix as Blocks, node_count, entry as block_entry}
 use Rattle.lists.specs.Rows.{position_of, freedom_at}
-use Rattle.factor_data.specs.Columns.{column_rows, column_values, column_entry, entry, IsFactor}
+use Rattle.factor_data.specs.Columns.{column_rows, column_values, column_entry, factor_entry, IsFactor}
 use Rattle.factor_data.specs.Columns.{ColumnLists}
-use Rattle.factor_data.proofs.OrderLemmas.{position-below, row-below, position-of_row}
+use Rattle.lists.proofs.RowLemmas.{position-below, row-below, position-of_row}
 use Rattle.lists.proofs.PlaceLemmas.{spread-rising}
 use Rattle.lists.proofs.UniqueLemmas.{decide_contains}
-use Rattle.factor_data.proofs.ColumnLemmas.{part-listed, part-missing}
+use Rattle.lists.proofs.PatternLemmas.{sum-listed, sum-unlisted}
 use Rattle.certificate.specs.declared.row_lists.RowEntry.{RowEntry}
 use Rattle.flex_num.specs.declared.guarded.GuardedSum.{GuardedSum}
 use Rattle.int_laws.specs.Matrices.{absolute, scalar_matrix}
@@ -35,34 +35,34 @@ use Rattle.certificate.proofs.ColumnLemmas.{absolute-mul}
 use Rattle.certificate.proofs.PlaceLemmas.{position-read}
 
 -- the size of a column's entry
-column-size : (f : ColumnLists) (k i : ℕ) → IsFactor f → column_size (column_rows f k) (column_values f k) i ≡ absolute (entry f i k)
+column-size : (f : ColumnLists) (k i : ℕ) → IsFactor f → column_size (column_rows f k) (column_values f k) i ≡ absolute (factor_entry f i k)
 column-size f k i kept =
     let rows = column_rows f k in
     let spread = spread-rising (column_rows f k) _ (kept.rising k) (λ j h. kept.in_range j k h) in
     elim (decide_contains (column_rows f k) i) [
       | inl found ↦
           let at = get_or_default (column_rows f k) found.0 0 i found.1 ∙ found.2 in
-          part-listed absolute (column_rows f k) (column_values f k) _ found.0 i spread found.1 at
-          ∙ sym (ap absolute (part-listed (λ z. z) (column_rows f k) (column_values f k) _ found.0 i spread found.1 at))
+          sum-listed (column_rows f k) (λ u. absolute (slice_index_or (column_values f k) u (pos 0))) _ found.0 i spread found.1 at
+          ∙ sym (ap absolute (sum-listed (column_rows f k) (λ u. slice_index_or (column_values f k) u (pos 0)) _ found.0 i spread found.1 at))
       | inr none ↦
-          part-missing absolute (column_rows f k) (column_values f k) i none
-          ∙ sym (ap absolute (part-missing (λ z. z) (column_rows f k) (column_values f k) i none))
+          sum-unlisted (column_rows f k) (λ u. absolute (slice_index_or (column_values f k) u (pos 0))) i none
+          ∙ sym (ap absolute (sum-unlisted (column_rows f k) (λ u. slice_index_or (column_values f k) u (pos 0)) i none))
     ]
 
 -- the products of the row at position p with that at position j, in value and in size
 products : (f : ColumnLists) (list : List RowEntry) (p j : ℕ) → ListsRow f p list →
-    row_product (λ z. z) list (λ k. column_entry (column_rows f k) (column_values f k) j) ≡ sum_below (6 * length f.order) (λ k. entry f p k *ℤ entry f j k)
+    row_product (λ z. z) list (λ k. column_entry (column_rows f k) (column_values f k) j) ≡ sum_below (6 * length f.order) (λ k. factor_entry f p k *ℤ factor_entry f j k)
 products f list p j lists = lists.value (λ k. column_entry (column_rows f k) (column_values f k) j)
 
 sizes : (f : ColumnLists) (list : List RowEntry) (p j : ℕ) → IsFactor f → ListsRow f p list →
-    row_product absolute list (λ k. column_size (column_rows f k) (column_values f k) j) ≡ sum_below (6 * length f.order) (λ k. absolute (entry f p k *ℤ entry f j k))
+    row_product absolute list (λ k. column_size (column_rows f k) (column_values f k) j) ≡ sum_below (6 * length f.order) (λ k. absolute (factor_entry f p k *ℤ factor_entry f j k))
 sizes f list p j kept lists =
     lists.size (λ k. column_size (column_rows f k) (column_values f k) j)
     ∙ sum_below-same (6 * length f.order) (λ k. column_size (column_rows f k) (column_values f k) p *ℤ column_size (column_rows f k) (column_values f k) j)
-    (λ k. absolute (entry f p k *ℤ entry f j k))
+    (λ k. absolute (factor_entry f p k *ℤ factor_entry f j k))
     (λ k _. ap (λ (z : ℤ). z *ℤ column_size (column_rows f k) (column_values f k) j) (column-size f k p kept)
-    ∙ ap (λ (z : ℤ). absolute (entry f p k) *ℤ z) (column-size f k j kept)
-    ∙ sym (absolute-mul (entry f p k) (entry f j k)))
+    ∙ ap (λ (z : ℤ). absolute (factor_entry f p k) *ℤ z) (column-size f k j kept)
+    ∙ sym (absolute-mul (factor_entry f p k) (factor_entry f j k)))
 
 -- what the sums miss is the residual
 missed-residual : (middle radii : Blocks) (f : ColumnLists) (shift : ℤ) (places : List ℕ) (list : List RowEntry) (sums : List GuardedSum) (row c : ℕ) → IsFactor f →
@@ -72,7 +72,7 @@ missed-residual middle radii f shift places list sums row c kept same placed lis
     let at = position-read f.order places c placed (omega (arith, same)) in
     let below : freedom_at places c < length sums = omega (arith, at, positions, position-below f.order c kept.order (omega (arith, same))) in
     let value = summed.value (freedom_at places c) below ∙ products f list (position_of f.order row) (freedom_at places c) lists in
-    let there = ap (λ (j : ℕ). sum_below (6 * length f.order) (λ k. entry f (position_of f.order row) k *ℤ entry f j k)) at in
+    let there = ap (λ (j : ℕ). sum_below (6 * length f.order) (λ k. factor_entry f (position_of f.order row) k *ℤ factor_entry f j k)) at in
     ap (λ (z : ℤ). (pos (2 ^ 52) *ℤ (block_entry middle row c -ℤ scalar_matrix shift row c)) -ℤ z) (value ∙ there)
 
 residual-total : (middle radii : Blocks) (f : ColumnLists) (shift : ℤ) (places : List ℕ) (list : List RowEntry) (row : ℕ) (r : ℤ) → IsFactor f →
@@ -89,7 +89,7 @@ beyond-refused : (middle radii : Blocks) (f : ColumnLists) (shift : ℤ) (list :
 beyond-refused middle radii f shift list row kept same lists beyond =
     let c = freedom_at f.order beyond.at in
     let at = position-of_row f.order beyond.at kept.order beyond.inside in
-    let there = ap (λ (j : ℕ). sum_below (6 * length f.order) (λ k. absolute (entry f (position_of f.order row) k *ℤ entry f j k))) at in
+    let there = ap (λ (j : ℕ). sum_below (6 * length f.order) (λ k. absolute (factor_entry f (position_of f.order row) k *ℤ factor_entry f j k))) at in
     inl (
       freedom_at f.order beyond.at,
       omega (arith, row-below f.order beyond.at kept.order beyond.inside, same),

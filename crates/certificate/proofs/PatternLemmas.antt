@@ -5,7 +5,7 @@ use Rattle.int_laws.specs.Sums.{sum_below}
 use Rattle.sym_blocks.specs.Matrix.{Matrix as SymMatrix, node_count, pattern_of, IsSymmetricByBlocks}
 use Rattle.lists.specs.Rows.{freedom_at}
 use Rattle.lists.specs.Order.{IsSpread}
-use Rattle.factor_data.proofs.OrderLemmas.{sum-pattern}
+use Rattle.lists.proofs.PatternLemmas.{sum-pattern}
 use Rattle.lists.proofs.PlaceLemmas.{spread-rising}
 
 -- ---- the pattern of a matrix by blocks

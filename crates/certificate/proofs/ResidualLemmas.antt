@@ -14,7 +14,8 @@ use Rattle.certificate.specs.RowSums.{sizes_total}
 use Rattle.flex_num.specs.Guarded.{value_at}
 use Rattle.certificate.specs.RowResidual.{missed, missed_total}
 use Rattle.int_laws.proofs.FormLaws.{scalar-outside}
-use Rattle.factor_data.proofs.OrderLemmas.{column-below, column-apart, sum-pattern}
+use Rattle.lists.proofs.RowLemmas.{column-below, column-apart}
+use Rattle.lists.proofs.PatternLemmas.{sum-pattern}
 use Rattle.lists.proofs.UniqueLemmas.{decide_contains}
 use Rattle.certificate.proofs.PatternLemmas.{pattern-spread}
 

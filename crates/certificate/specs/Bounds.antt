@@ -1,7 +1,7 @@
 -- The bounds that are computed of every equilibrium: given displacements u and the members' forces there, each wider by a
 -- radius. The radii come from lambda and from the length of what u leaves of the loads, by the law of certified bounds.
 use Rattle.std.specs.Prelude.{ℕ, ◌^◌, ◌<◌, ◌≡◌, List, [], length, slice_index_or, ℤ, pos, ◌≤ℤ◌, ◌<ℤ◌, unsigned_abs, All, Ok, Err, IsOk, IsErr}
-use Rattle.flex_num.specs.Root.{root_up_of}
+use Rattle.int_laws.specs.Root.{root_up_of}
 use Rattle.flex_interval.specs.Ends.{Ends}
 use Rattle.flex_interval.specs.Fraction.{Within}
 use Rattle.member_set.specs.Members.{nothing, member_of, force_of, row_count, IsModerate, System}

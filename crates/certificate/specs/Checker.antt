@@ -3,7 +3,7 @@ use Rattle.std.specs.Prelude.{ℕ, ◌*◌, ◌^◌, ◌<◌, ℤ, pos, ◌*ℤ�
 use Rattle.int_laws.specs.Sums.{sum_below}
 use Rattle.sym_blocks.specs.Matrix.{Matrix as Blocks, node_count, entry as block_entry}
 use Rattle.lists.specs.Rows.{position_of}
-use Rattle.factor_data.specs.Columns.{entry}
+use Rattle.factor_data.specs.Columns.{factor_entry}
 use Rattle.factor_data.specs.Columns.{ColumnLists}
 use Rattle.certificate.specs.declared.check.Verdict.{Verdict}
 use Rattle.certificate.specs.declared.check.Verdict.TheVariants.{Yes, No}
@@ -18,7 +18,7 @@ test_of middle radii factor shift =
       middle = block_entry middle;
       radius = block_entry radii;
       width = 6 * length factor.order;
-      factor = λ i k. entry factor (position_of factor.order i) k;
+      factor = λ i k. factor_entry factor (position_of factor.order i) k;
       shift = shift;
       scale = pos (2 ^ 52);
     }

@@ -1,6 +1,6 @@
 ghost use Rattle.std.specs.Prelude.{◌≡◌, ◌^◌, ◌<◌, ◌≤◌, ◌*◌, ℤ, pos, ◌+ℤ◌, ◌*ℤ◌, ◌≤ℤ◌, ◌<ℤ◌, unsigned_abs, IfOk, OnErr};
 ghost use Rattle.int_laws.specs.Division.{ceil_of};
-ghost use Rattle.flex_num.specs.Root.{root_up_of};
+ghost use Rattle.int_laws.specs.Root.{root_up_of};
 ghost use Rattle.bound_laws.specs.Nearness.{greater_size, displacement_radius_of, force_radius_of, widened};
 ghost use Rattle.member_set.specs.Members.{IsStiff};
 

@@ -2,19 +2,18 @@
 use Rattle.std.proofs.Common.{◌≡◌, ℕ, zero, suc, ◌+◌, ◌*◌, ◌^◌, ◌<◌, ◌≤◌, Bool, true, false, List, Option, ◌∙◌, ap, arith, mul-le-mul_right, mul-le-mul, cond, eqb, inl, inr, ℤ, pos, negsuc, ◌+ℤ◌, ◌-ℤ◌, ◌*ℤ◌, ◌≤ℤ◌, ◌<ℤ◌, neg_ℤ, unsigned_abs}
 use Rattle.std.proofs.lemmas.Int.{ints, by_lt_z, unsigned_abs-mul}
 use Rattle.int_laws.proofs.Sums.{int_sums}
-use Rattle.int_laws.proofs.Products.{mul_comm, add-mul, mul-add, sub-mul, mul-sub, square_nonnegative}
+use Rattle.int_laws.proofs.Products.{mul_comm, add-mul, mul-add, sub-mul, mul-sub, square_nonnegative, square_large}
 use Rattle.int_laws.specs.Division.{nearest_of}
-use Rattle.flex_num.specs.Root.{root_of}
-use Rattle.int_laws.proofs.DivisionLemmas.{nearest_of-is, nearest_unique}
-use Rattle.flex_num.proofs.RootLemmas.{root_of-is}
+use Rattle.int_laws.specs.Root.{root_of}
+use Rattle.int_laws.proofs.DivisionLemmas.{nearest_of-zero}
+use Rattle.int_laws.proofs.RootLemmas.{root_of-is}
 use Rattle.int_laws.specs.Sums.{sum_below}
-use Rattle.cholesky_laws.specs.Recurrence.{cholesky, left_after, pivot, scaled}
+use Rattle.cholesky_laws.specs.Recurrence.{cholesky, left_after, pivot, scaled_stiffness}
 use Rattle.lists.specs.Rows.{freedom_at}
 use Rattle.cholesky_laws.proofs.RecurrenceLemmas.{cases_pivot, cholesky-broken, cholesky-diagonal, cholesky-below}
 use Rattle.elimination.specs.Elimination.{parent_of, is_in_subtree}
 use Rattle.cholesky_laws.specs.Breakdown.{squares}
-use Rattle.int_laws.proofs.SumLaws.{sum_below-nonnegative}
-use Rattle.cholesky_laws.proofs.SumsLemmas.{sum_below-by_six, sum_below-at_most, sum_below-term}
+use Rattle.int_laws.proofs.SumLaws.{sum_below-nonnegative, sum_below-by_six, sum_below-at_most, sum_below-term}
 use Rattle.cholesky_laws.proofs.SubtreeLemmas.{picked, names, node_squares, squares-children, squares-subtree_sum}
 
 -- twice a product is at most the sum of the squares, either way
@@ -97,11 +96,6 @@ pub pivot-le : (a : ℕ → ℕ → ℤ) (j : ℕ) → pivot a j ≤ℤ a j j
 unfolding left_after
 pivot-le a j = let taken = row_squares-nonnegative a j j in omega (arith, int_sums)
 
--- the square of a number of 2^57 or more
-square_large : (x : ℤ) → 2 ^ 57 ≤ unsigned_abs x → pos (2 ^ 114) ≤ℤ (x *ℤ x)
-square_large (pos n) large = omega (arith, ints, mul-le-mul large large)
-square_large (negsuc n) large = omega (arith, ints, mul-le-mul large large)
-
 -- what is left of a diagonal entry is below it
 pub left_after-low : (a : ℕ → ℕ → ℤ) (n i : ℕ) → unsigned_abs (a i i) < 2 ^ 113 → left_after a n i i <ℤ pos (2 ^ 113)
 unfolding left_after
@@ -117,22 +111,7 @@ pivot_after_large a i k lt small large =
     let taken = sum_below-term i (λ m. cholesky a i m *ℤ cholesky a i m) (λ m ml. square_nonnegative (cholesky a i m)) k lt in
     omega (arith, int_sums)
 
--- a pivot's root is at least 1 and below 2^57
-pub root_bounds : (p : ℤ) → pos 1 ≤ℤ p → p <ℤ pos (2 ^ 114) → (pos 1 ≤ℤ root_of p) × (root_of p <ℤ pos (2 ^ 57))
-root_bounds p positive small =
-    let r = root_of-is p (omega (arith, int_sums)) in
-    let square = r.at_most in (
-      r.greatest (pos 1) (omega (arith, int_sums)),
-      by_lt_z (root_of p) (pos (2 ^ 57)) (λ below. below)
-          (λ above. let large = square_large (root_of p) (omega (arith, int_sums)) in absurd (omega (arith, int_sums))),
-    )
-
 -- nothing left gives the entry 0
-pub nearest_of-zero : (d : ℤ) → pos 0 <ℤ d → nearest_of (pos 0) d ≡ pos 0
-nearest_of-zero d positive =
-    nearest_unique positive (nearest_of-is (pos 0) d positive)
-    record { half_below = omega (arith, ints); half_above = omega (arith, ints) }
-
 pub cholesky-zero : (a : ℕ → ℕ → ℤ) (i j : ℕ) → j < i → left_after a j i j ≡ pos 0 → cholesky a i j ≡ pos 0
 cholesky-zero a i j lt none =
     elim (cases_pivot (pivot a j)) [
@@ -144,9 +123,9 @@ cholesky-zero a i j lt none =
     ]
 
 -- a scaled stiffness of 60 bits, with its shift, has 113
-pub scaled-small : (km : ℕ → ℕ → ℤ) (order : List ℕ) (shift : ℤ) → ((i j : ℕ) → unsigned_abs (km i j) < 2 ^ 60) → pos 0 ≤ℤ shift → shift ≤ℤ pos (2 ^ 44) → (i j : ℕ) → unsigned_abs (scaled km order shift i j) < 2 ^ 113
-unfolding scaled
-scaled-small km order shift small low high i j =
+pub scaled_stiffness-small : (km : ℕ → ℕ → ℤ) (order : List ℕ) (shift : ℤ) → ((i j : ℕ) → unsigned_abs (km i j) < 2 ^ 60) → pos 0 ≤ℤ shift → shift ≤ℤ pos (2 ^ 44) → (i j : ℕ) → unsigned_abs (scaled_stiffness km order shift i j) < 2 ^ 113
+unfolding scaled_stiffness
+scaled_stiffness-small km order shift small low high i j =
     let k = small (freedom_at order i) (freedom_at order j) in
     let off = shift_size (eqb i j) shift low high in
     let size = unsigned_abs-mul (pos (2 ^ 52)) (km (freedom_at order i) (freedom_at order j) -ℤ cond (eqb i j) shift (pos 0)) in

@@ -2,7 +2,7 @@
 use Rattle.std.proofs.Common.{◌≡◌, ℕ, zero, suc, ◌<◌, ◌≤◌, ◌⊎◌, inl, inr, ◌∙◌, sym, ap, ap₂, arith, subst, ℤ, pos, ◌-ℤ◌, ◌*ℤ◌, ◌≤ℤ◌, ◌<ℤ◌}
 use Rattle.std.proofs.lemmas.Bool.{cases_lt, cases_eq, cases_order}
 use Rattle.int_laws.specs.Division.{nearest_of}
-use Rattle.flex_num.specs.Root.{root_of}
+use Rattle.int_laws.specs.Root.{root_of}
 use Rattle.int_laws.specs.Sums.{sum_below}
 use Rattle.int_laws.proofs.SumLaws.{sum_below-same}
 use Rattle.cholesky_laws.specs.Recurrence.{MeetsRecurrence}

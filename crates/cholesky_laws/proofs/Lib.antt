@@ -1,4 +1,3 @@
-pub mod SumsLemmas
 pub mod RecurrenceLemmas
 pub mod PanelLemmas
 pub mod SubtreeLemmas

@@ -3,7 +3,7 @@ use Rattle.std.proofs.Common.{◌≡◌, ℕ, zero, suc, ◌+◌, ◌<◌, ◌�
 use Rattle.std.proofs.lemmas.Bool.{cases_lt, cases_eq}
 use Rattle.int_laws.proofs.Sums.{int_sums}
 use Rattle.int_laws.specs.Division.{nearest_of}
-use Rattle.flex_num.specs.Root.{root_of}
+use Rattle.int_laws.specs.Root.{root_of}
 use Rattle.cholesky_laws.specs.Recurrence.{cholesky, left_after, pivot}
 use Rattle.cholesky_laws.proofs.RecurrenceLemmas.{cases_pivot, cholesky-broken, cholesky-above, cholesky-diagonal, cholesky-below, left_after-none, left_after-next}
 

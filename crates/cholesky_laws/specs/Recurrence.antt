@@ -2,7 +2,7 @@
 -- nearest. It is defined for every matrix `a`, column after column, with rows and columns in elimination positions.
 use Rattle.std.specs.Prelude.{◌≡◌, ℕ, zero, suc, ◌+◌, ◌*◌, ◌/◌, ◌%◌, ◌^◌, ◌<◌, nat_eq, nat_lt, int_lt, List, [], ◌∷◌, slice_index, if◌then◌else◌, ℤ, pos, ◌+ℤ◌, ◌-ℤ◌, ◌*ℤ◌, ◌≤ℤ◌, ◌<ℤ◌}
 use Rattle.int_laws.specs.Division.{nearest_of}
-use Rattle.flex_num.specs.Root.{root_of}
+use Rattle.int_laws.specs.Root.{root_of}
 use Rattle.int_laws.specs.Sums.{sum_below}
 use Rattle.lists.specs.Rows.{freedom_at}
 
@@ -57,6 +57,6 @@ abbrev pub RecurrenceIsDetermined : Type 0
 RecurrenceIsDetermined = (a g : ℕ → ℕ → ℤ) → MeetsRecurrence a g → (i j : ℕ) → g i j ≡ cholesky a i j
 
 -- the stiffness in elimination positions, scaled by 2^52 and with a shift off the diagonal entries
-unfoldable pub scaled : (ℕ → ℕ → ℤ) → List ℕ → ℤ → ℕ → ℕ → ℤ
-scaled km order shift i j =
+unfoldable pub scaled_stiffness : (ℕ → ℕ → ℤ) → List ℕ → ℤ → ℕ → ℕ → ℤ
+scaled_stiffness km order shift i j =
     pos (2 ^ 52) *ℤ (km (freedom_at order i) (freedom_at order j) -ℤ (if nat_eq i j then shift else pos 0))

@@ -4,7 +4,7 @@ use Rattle.std.proofs.lemmas.Bool.{cases_lt, cases_eq, ne_eqb}
 use Rattle.std.proofs.lemmas.List.{same_lists, get_or_default}
 use Rattle.lists.specs.Lists.{list_of}
 use Rattle.lists.proofs.UniqueLemmas.{rising_unique}
-use Rattle.cholesky_laws.specs.Recurrence.{cholesky, scaled}
+use Rattle.cholesky_laws.specs.Recurrence.{cholesky, scaled_stiffness}
 use Rattle.lists.specs.Rows.{freedom_at}
 use Rattle.cholesky_laws.specs.Fill.{IsOnPattern}
 use Rattle.cholesky_laws.proofs.RecurrenceLemmas.{cholesky-above}
@@ -80,8 +80,8 @@ fill_in_rows pairs order t a is on i k il kl out =
 times_zero : (z : ℤ) → z ≡ pos 0 → pos (2 ^ 52) *ℤ (z -ℤ pos 0) ≡ pos 0
 times_zero z e = ap (λ (x : ℤ). pos (2 ^ 52) *ℤ (x -ℤ pos 0)) e
 
-pub stiffness_on_pattern : (pairs : List (ℕ × ℕ)) (order : List ℕ) (km : ℕ → ℕ → ℤ) (shift : ℤ) → ((i j : ℕ) → i / 6 ≢ j / 6 → (links pairs (i / 6) (j / 6) → ⊥) → km i j ≡ pos 0) → ((p q : ℕ) → p < length order → q < length order → get_or order p 0 ≡ get_or order q 0 → p ≡ q) → IsOnPattern (scaled km order shift) (placed (links pairs) order) (length order)
-unfolding scaled
+pub stiffness_on_pattern : (pairs : List (ℕ × ℕ)) (order : List ℕ) (km : ℕ → ℕ → ℤ) (shift : ℤ) → ((i j : ℕ) → i / 6 ≢ j / 6 → (links pairs (i / 6) (j / 6) → ⊥) → km i j ≡ pos 0) → ((p q : ℕ) → p < length order → q < length order → get_or order p 0 ≡ get_or order q 0 → p ≡ q) → IsOnPattern (scaled_stiffness km order shift) (placed (links pairs) order) (length order)
+unfolding scaled_stiffness
 stiffness_on_pattern pairs order km shift apart different i j il lt out =
     let node = λ (x : ℕ). get_or order (x / 6) 0 in
     let at_i : freedom_at order i / 6 ≡ node i = omega arith in

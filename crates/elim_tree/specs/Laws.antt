@@ -1,7 +1,7 @@
 -- The laws of assembly trees.
 use Rattle.std.specs.Prelude.{◌≡◌, ◌≢◌, ℕ, ◌*◌, ◌/◌, ◌<◌, List, length, slice_index, Contains, ℤ, pos}
 use Rattle.lists.specs.Lists.{list_of}
-use Rattle.cholesky_laws.specs.Recurrence.{cholesky, scaled}
+use Rattle.cholesky_laws.specs.Recurrence.{cholesky, scaled_stiffness}
 use Rattle.cholesky_laws.specs.Fill.{IsOnPattern}
 use Rattle.elimination.specs.Elimination.{IsTree}
 use Rattle.elim_order.specs.Graph.{links}
@@ -27,4 +27,4 @@ FillLiesInRows = (pairs : List (ℕ × ℕ)) (order : List ℕ) (t : Fronts) (a 
 
 -- the scaled matrix of a stiffness that joins no other nodes than the pairs do is on the pattern
 abbrev pub StiffnessIsOnPattern : Type 0
-StiffnessIsOnPattern = (pairs : List (ℕ × ℕ)) (order : List ℕ) (km : ℕ → ℕ → ℤ) (shift : ℤ) → ((i j : ℕ) → i / 6 ≢ j / 6 → (links pairs (i / 6) (j / 6) → ⊥) → km i j ≡ pos 0) → ((p q : ℕ) → p < length order → q < length order → slice_index order p ≡ slice_index order q → p ≡ q) → IsOnPattern (scaled km order shift) (placed (links pairs) order) (length order)
+StiffnessIsOnPattern = (pairs : List (ℕ × ℕ)) (order : List ℕ) (km : ℕ → ℕ → ℤ) (shift : ℤ) → ((i j : ℕ) → i / 6 ≢ j / 6 → (links pairs (i / 6) (j / 6) → ⊥) → km i j ≡ pos 0) → ((p q : ℕ) → p < length order → q < length order → slice_index order p ≡ slice_index order q → p ≡ q) → IsOnPattern (scaled_stiffness km order shift) (placed (links pairs) order) (length order)

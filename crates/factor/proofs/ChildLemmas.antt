@@ -1,4 +1,4 @@
--- The squares of a node's rows in its children's subtrees, from one user to the next.
+-- The squares of a node's rows in its children's subtrees, from one node of the row pattern to the next.
 use Rattle.std.proofs.Common.{◌≡◌, ℕ, suc, ◌+◌, ◌*◌, ◌/◌, ◌%◌, ◌^◌, ◌<◌, ◌≤◌, Bool, true, false, cond, eqb, List, Option, Some, None, length, get_or, replicate, Contains, All, ◌∙◌, sym, ap, refl, arith, inl, inr, mul-le-mul_right, ℤ, pos, ◌+ℤ◌, ◌≤ℤ◌, ◌<ℤ◌}
 use Rattle.std.specs.Int.RustNames.{unsigned_abs}
 use Rattle.std.specs.Option.{option_map_or}
@@ -13,13 +13,13 @@ use Rattle.lists.specs.Order.{place_of}
 use Rattle.lists.proofs.PlaceLemmas.{place_of-at}
 use Rattle.elimination.specs.Elimination.{parent_of}
 use Rattle.cholesky_laws.specs.Breakdown.{Passes, squares}
-use Rattle.cholesky_laws.proofs.SumsLemmas.{sum_below-at_most}
+use Rattle.int_laws.proofs.SumLaws.{sum_below-at_most}
 use Rattle.cholesky_laws.proofs.BoundLemmas.{squares-nonnegative}
 use Rattle.factor.specs.Panel.{IsPanel, kept_for}
-use Rattle.factor.specs.State.{ArePanels, AreUsers, HoldsChildren, is_parent}
+use Rattle.factor.specs.State.{ArePanels, IsRowPattern, HoldsChildren, is_parent}
 use Rattle.factor.specs.declared.panel.Panel.{Panel}
 use Rattle.factor.proofs.GapLemmas.{IsGap, carried, none_first, none_between, gap_past}
-use Rattle.factor.proofs.UserLemmas.{below}
+use Rattle.factor.proofs.RowPatternLemmas.{below}
 
 -- nothing at first
 pub children_none : (a : ℕ → ℕ → ℤ) (parents : List (Option ℕ)) (size n : ℕ) (nodes : List ℕ) (sums : List ℤ) → sums ≡ replicate (6 * length nodes) (pos 0) → HoldsChildren a parents size n nodes sums 0
@@ -56,24 +56,24 @@ not_parent : (o : Option ℕ) (n : ℕ) → (o ≡ Some n → ⊥) → option_ma
 not_parent None n differs = refl
 not_parent (Some v) n differs = ne_eqb v n (λ e. differs (ap Some e))
 
--- a node before that is no user is no child
-no_user_no_child : (a : ℕ → ℕ → ℤ) (parents : List (Option ℕ)) (size n d : ℕ) (panels : List Panel) (users : List ℕ) → ArePanels a parents size n panels → AreUsers panels n n users → d < n → (Contains users d → ⊥) → is_parent parents n d ≡ false
-no_user_no_child a parents size n d panels users p u lt absent =
+-- a node before that is not in the row pattern is no child
+absent_no_child : (a : ℕ → ℕ → ℤ) (parents : List (Option ℕ)) (size n d : ℕ) (panels : List Panel) (row_pattern : List ℕ) → ArePanels a parents size n panels → IsRowPattern panels n n row_pattern → d < n → (Contains row_pattern d → ⊥) → is_parent parents n d ≡ false
+absent_no_child a parents size n d panels row_pattern p u lt absent =
     not_parent (parent_of parents d) n (λ is. absent ((u.reaching d).1 (lt, (p.known d lt).parent n is)))
 
-pub children_first : (a : ℕ → ℕ → ℤ) (parents : List (Option ℕ)) (size n m : ℕ) (panels : List Panel) (users nodes : List ℕ) (sums : List ℤ) → ArePanels a parents size n panels → AreUsers panels n n users → HoldsChildren a parents size n nodes sums 0 → IsGap users n 0 m → HoldsChildren a parents size n nodes sums m
-children_first a parents size n m panels users nodes sums p u start gap =
+pub children_first : (a : ℕ → ℕ → ℤ) (parents : List (Option ℕ)) (size n m : ℕ) (panels : List Panel) (row_pattern nodes : List ℕ) (sums : List ℤ) → ArePanels a parents size n panels → IsRowPattern panels n n row_pattern → HoldsChildren a parents size n nodes sums 0 → IsGap row_pattern n 0 m → HoldsChildren a parents size n nodes sums m
+children_first a parents size n m panels row_pattern nodes sums p u start gap =
     let most = gap.most in
     carried (λ x. HoldsChildren a parents size n nodes sums x) 0 m (omega arith)
-    (λ d bd dm h. children_skip a parents size n d nodes sums (no_user_no_child a parents size n d panels users p u (omega arith) (none_first users n m d gap dm)) h)
+    (λ d bd dm h. children_skip a parents size n d nodes sums (absent_no_child a parents size n d panels row_pattern p u (omega arith) (none_first row_pattern n m d gap dm)) h)
     start
 
-pub children_after : (a : ℕ → ℕ → ℤ) (parents : List (Option ℕ)) (size n i m : ℕ) (panels : List Panel) (users nodes : List ℕ) (sums : List ℤ) → ArePanels a parents size n panels → AreUsers panels n n users → i < length users → HoldsChildren a parents size n nodes sums (suc (get_or users i 0)) → IsGap users n (i + 1) m → HoldsChildren a parents size n nodes sums m
-children_after a parents size n i m panels users nodes sums p u lt start gap =
+pub children_after : (a : ℕ → ℕ → ℤ) (parents : List (Option ℕ)) (size n i m : ℕ) (panels : List Panel) (row_pattern nodes : List ℕ) (sums : List ℤ) → ArePanels a parents size n panels → IsRowPattern panels n n row_pattern → i < length row_pattern → HoldsChildren a parents size n nodes sums (suc (get_or row_pattern i 0)) → IsGap row_pattern n (i + 1) m → HoldsChildren a parents size n nodes sums m
+children_after a parents size n i m panels row_pattern nodes sums p u lt start gap =
     let most = gap.most in
-    let past = gap_past users n i m lt gap in
-    carried (λ x. HoldsChildren a parents size n nodes sums x) (suc (get_or users i 0)) m (omega arith)
-    (λ d bd dm h. children_skip a parents size n d nodes sums (no_user_no_child a parents size n d panels users p u (omega arith) (none_between users n i m d (below panels n n users u) lt gap (omega arith) dm)) h)
+    let past = gap_past row_pattern n i m lt gap in
+    carried (λ x. HoldsChildren a parents size n nodes sums x) (suc (get_or row_pattern i 0)) m (omega arith)
+    (λ d bd dm h. children_skip a parents size n d nodes sums (absent_no_child a parents size n d panels row_pattern p u (omega arith) (none_between row_pattern n i m d (below panels n n row_pattern u) lt gap (omega arith) dm)) h)
     start
 
 -- the sums are small

@@ -1,5 +1,5 @@
 -- The columns of a factor from panels, and the panels one after another.
-use Rattle.std.proofs.Common.{◌≡◌, ℕ, ◌+◌, ◌-◌, ◌*◌, ◌/◌, ◌%◌, ◌<◌, ◌≤◌, List, [], ◌∷◌, ◌++◌, length, get_or, Contains, cond, ltb, ◌∙◌, sym, ap, refl, arith, subst, inl, inr, ℤ, pos}
+use Rattle.std.proofs.Common.{slice_index_or, ◌≡◌, ℕ, ◌+◌, ◌-◌, ◌*◌, ◌/◌, ◌%◌, ◌<◌, ◌≤◌, List, [], ◌∷◌, ◌++◌, length, get_or, Contains, cond, ltb, ◌∙◌, sym, ap, refl, arith, subst, inl, inr, ℤ, pos}
 use Rattle.std.proofs.lemmas.Bool.{cases_lt, cases_eq, lt-ltb, le-ltb}
 use Rattle.std.proofs.lemmas.List.{get_or_default, get_or_past, get_or_append_left, get_or_push, length_push}
 use Rattle.std.proofs.lemmas.List.Elements.{All-contains}
@@ -9,7 +9,7 @@ use Rattle.lists.specs.Lists.{list_of}
 use Rattle.lists.proofs.PlaceLemmas.{place_of-at, at_place_of}
 use Rattle.lists.specs.Order.{IsOrder}
 use Rattle.factor_data.specs.Columns.{columns_of, column_entry, IsFactor}
-use Rattle.factor_data.proofs.ColumnLemmas.{part-listed, part-missing}
+use Rattle.lists.proofs.PatternLemmas.{sum-listed, sum-unlisted}
 use Rattle.lists.proofs.PlaceLemmas.{spread-rising, length-rising}
 use Rattle.factor.specs.Panel.{kept_for}
 use Rattle.factor.specs.State.{nodes_at, entries_at}
@@ -174,11 +174,11 @@ column_is size d c nodes rows entries values i cl dl f whole r w le =
           in
           let count = w.count (omega (arith, first.0)) in
           let where_is : 6 * (c + v) + c ≡ 36 * p + (6 * (i % 6) + c) = omega arith in
-          part-listed (λ z. z) rows values (6 * size) v i spread v-in row
+          sum-listed rows (λ u. slice_index_or values u (pos 0)) (6 * size) v i spread v-in row
           ∙ w.value v (omega (arith, r.count, count))
           ∙ ap (λ (x : ℕ). get_or entries x (pos 0)) where_is)
       | inr ge ↦
-          part-missing (λ z. z) rows values i (λ (v, vl, is).
+          sum-unlisted rows (λ u. slice_index_or values u (pos 0)) i (λ (v, vl, is).
           let row = r.row v vl in
           let here : get_or rows v 0 ≡ i = get_or_default rows v 0 i vl ∙ is in
           let u = (c + v) / 6 in
@@ -199,7 +199,7 @@ columns_hold order panels rows values ordered s c =
           let kept = kept_for 36 (nodes_at panels d) (entries_at panels d) (i / 6) (6 * (i % 6) + j % 6) in
           elim (cases_lt i j) [
             | inl above ↦
-                part-missing (λ z. z) (list_of rows j) (list_of values j) i (λ listed. let low = (columns_fit order panels rows values ordered s c).lower i j listed in omega arith)
+                sum-unlisted (list_of rows j) (λ u. slice_index_or (list_of values j) u (pos 0)) i (λ listed. let low = (columns_fit order panels rows values ordered s c).lower i j listed in omega arith)
                 ∙ test_above i j kept above
             | inr from ↦
                 column_is size d (j % 6) (nodes_at panels d) (list_of rows j) (entries_at panels d) (list_of values j) i (omega arith) (omega arith) (shape_front size panels d s (omega arith)) (s.whole d (omega arith)) (c.rows_are j lt) (c.values_are j lt) (omega arith)

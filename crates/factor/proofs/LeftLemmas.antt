@@ -1,4 +1,4 @@
--- What is left for a node's rows, from one user to the next.
+-- What is left for a node's rows, from one node of the row pattern to the next.
 use Rattle.std.proofs.Common.{◌≡◌, ℕ, suc, ◌+◌, ◌*◌, ◌/◌, ◌%◌, ◌^◌, ◌<◌, ◌≤◌, cond, List, Option, length, get_or, Contains, All, ◌∙◌, sym, ap, arith, subst, inl, inr, ℤ, pos, ◌+ℤ◌, ◌-ℤ◌, ◌*ℤ◌}
 use Rattle.std.specs.Int.RustNames.{unsigned_abs}
 use Rattle.std.proofs.lemmas.Bool.{cases_lt, ne_eqb}
@@ -11,15 +11,15 @@ use Rattle.lists.specs.Rising.{IsRising}
 use Rattle.lists.specs.Order.{place_of}
 use Rattle.lists.proofs.PlaceLemmas.{place_of-at, place_of-absent, at_place_of}
 use Rattle.sym_blocks.specs.Matrix.{Matrix, HasBlock, IsSymmetricByBlocks, entry as stiffness}
-use Rattle.cholesky_laws.specs.Recurrence.{cholesky, left_after, scaled}
+use Rattle.cholesky_laws.specs.Recurrence.{cholesky, left_after, scaled_stiffness}
 use Rattle.lists.specs.Rows.{freedom_at}
 use Rattle.cholesky_laws.specs.Breakdown.{Passes}
-use Rattle.cholesky_laws.proofs.SumsLemmas.{sum_below-split}
+use Rattle.int_laws.proofs.SumLaws.{sum_below-split}
 use Rattle.cholesky_laws.proofs.RecurrenceLemmas.{left_after-none}
 use Rattle.cholesky_laws.proofs.BoundLemmas.{left_after-small, IsNarrowBefore}
 use Rattle.factor.specs.Panel.{IsPanel, kept_for}
 use Rattle.factor.specs.Gather.{block_product}
-use Rattle.factor.specs.Front.{IsLoaded}
+use Rattle.factor.specs.Front.{IsScattered}
 use Rattle.factor.specs.State.{matrix_of, IsFront, HoldsLeft}
 use Rattle.factor.specs.declared.panel.Panel.{Panel}
 use Rattle.factor.proofs.GatherLemmas.{kept_for-past}
@@ -55,7 +55,7 @@ holds_over a size n nodes work b m le none start =
     h q t nq qs tl ∙ sym (left_six_none a d (6 * q + t / 6) (6 * n + t % 6) (λ c cl. none d bd dm (t % 6) c (omega arith) cl)))
     start
 
--- the panel of a user is taken off
+-- the panel of a node of the row pattern is taken off
 pub holds_next : (a : ℕ → ℕ → ℤ) (parents : List (Option ℕ)) (size n d : ℕ) (nodes reached : List ℕ) (old new entries sums : List ℤ) → d < n → n < size → IsPanel a parents size d reached entries sums → HoldsLeft a size n nodes old d → ((q t : ℕ) → n ≤ q → t < 36 → kept_for 36 nodes new q t ≡ kept_for 36 nodes old q t -ℤ block_product reached entries n q t) → HoldsLeft a size n nodes new (suc d)
 holds_next a parents size n d nodes reached old new entries sums lt in' panel holds taken q t nq qs tl =
     let products : block_product reached entries n q t ≡ sum_below 6 (λ c. cholesky a (6 * q + t / 6) (6 * d + c) *ℤ cholesky a (6 * n + t % 6) (6 * d + c)) =
@@ -68,15 +68,15 @@ holds_next a parents size n d nodes reached old new entries sums lt in' panel ho
     ∙ ap (λ z. left_after a (6 * d) (6 * q + t / 6) (6 * n + t % 6) -ℤ z) products
     ∙ sym (left_six a d (6 * q + t / 6) (6 * n + t % 6))
 
--- a node before that is no user has nothing there
-pub none_unless_user : (a : ℕ → ℕ → ℤ) (parents : List (Option ℕ)) (size n d : ℕ) (reached : List ℕ) (entries sums : List ℤ) → d < n → n < size → IsPanel a parents size d reached entries sums → (Contains reached n → ⊥) → HasNone a n d
-none_unless_user a parents size n d reached entries sums lt in' panel absent r c rl cl =
+-- a node before that is not in the row pattern has nothing there
+pub none_outside_row_pattern : (a : ℕ → ℕ → ℤ) (parents : List (Option ℕ)) (size n d : ℕ) (reached : List ℕ) (entries sums : List ℤ) → d < n → n < size → IsPanel a parents size d reached entries sums → (Contains reached n → ⊥) → HasNone a n d
+none_outside_row_pattern a parents size n d reached entries sums lt in' panel absent r c rl cl =
     sym (panel.entry n r c (omega arith) in' rl cl)
     ∙ kept_for-past 36 reached entries n (6 * r + c) (omega (arith, panel.whole)) (omega (arith, place_of-absent reached n absent))
 
 -- outside the pattern a scaled stiffness is 0
 outside_none : (k : Matrix) (order : List ℕ) (shift : ℤ) (q n r c : ℕ) → IsSymmetricByBlocks k → r < 6 → c < 6 → (q ≡ n → ⊥) → (HasBlock k (get_or order q 0) (get_or order n 0) → ⊥) → matrix_of k order shift (6 * q + r) (6 * n + c) ≡ pos 0
-unfolding scaled
+unfolding scaled_stiffness
 outside_none k order shift q n r c kept rl cl apart absent =
     let i = 6 * q + r in
     let j = 6 * n + c in
@@ -91,9 +91,9 @@ outside_none k order shift q n r c kept rl cl apart absent =
     ap (λ t. pos (2 ^ 52) *ℤ (stiffness k (freedom_at order i) (freedom_at order j) -ℤ cond t shift (pos 0))) (ne_eqb i j (λ e. apart (omega arith)))
     ∙ ap (λ z. pos (2 ^ 52) *ℤ (z -ℤ pos 0)) none
 
--- what is loaded is the matrix
-pub loaded_holds : (k : Matrix) (order : List ℕ) (parents : List (Option ℕ)) (shift : ℤ) (panels : List Panel) (users nodes : List ℕ) (n : ℕ) (work : List ℤ) → n < length order → IsFront k order parents panels users n nodes → IsLoaded (matrix_of k order shift) nodes n work → HoldsLeft (matrix_of k order shift) (length order) n nodes work 0
-loaded_holds k order parents shift panels users nodes n work in' front loaded q t nq qs tl =
+-- the entries that are scattered are those of the matrix
+pub scattered_holds : (k : Matrix) (order : List ℕ) (parents : List (Option ℕ)) (shift : ℤ) (panels : List Panel) (row_pattern nodes : List ℕ) (n : ℕ) (work : List ℤ) → n < length order → IsFront k order parents panels row_pattern n nodes → IsScattered (matrix_of k order shift) nodes n work → HoldsLeft (matrix_of k order shift) (length order) n nodes work 0
+scattered_holds k order parents shift panels row_pattern nodes n work in' front scattered q t nq qs tl =
     let a = matrix_of k order shift in
     let p = place_of q nodes in
     elim (cases_lt p (length nodes)) [
@@ -103,7 +103,7 @@ loaded_holds k order parents shift panels users nodes n work in' front loaded q 
           let e2 : s % 36 / 6 ≡ t / 6 = omega arith in
           let e3 : s % 6 ≡ t % 6 = omega arith in
           let node : get_or nodes (s / 36) 0 ≡ q = ap (λ (x : ℕ). get_or nodes x 0) e1 ∙ at_place_of nodes q lt in
-          loaded.value s (omega arith)
+          scattered.value s (omega arith)
           ∙ ap (λ (x : ℕ). a (6 * x + s % 36 / 6) (6 * n + s % 6)) node
           ∙ ap (λ (x : ℕ). a (6 * q + x) (6 * n + s % 6)) e2
           ∙ ap (λ (x : ℕ). a (6 * q + t / 6) (6 * n + x)) e3
@@ -116,7 +116,7 @@ loaded_holds k order parents shift panels users nodes n work in' front loaded q 
           omega arith
           in
           let apart : q ≡ n → ⊥ = λ e. missing (subst (λ (x : ℕ). Contains nodes x) (sym e) front.own) in
-          kept_for-past 36 nodes work q t (omega (arith, loaded.whole)) ge
+          kept_for-past 36 nodes work q t (omega (arith, scattered.whole)) ge
           ∙ sym (outside_none k order shift q n (t / 6) (t % 6) front.kept (omega arith) (omega arith) apart
           (λ h. missing (front.matrix q (let differ = apart in omega arith) qs (front.kept.converse (get_or order q 0) (get_or order n 0) h))))
           ∙ sym (left_after-none a (6 * q + t / 6) (6 * n + t % 6))

@@ -5,9 +5,9 @@ pub mod GatherLemmas
 pub mod SquaresLemmas
 pub mod GapLemmas
 pub mod LeftLemmas
-pub mod UserLemmas
+pub mod RowPatternLemmas
 pub mod ChildLemmas
-pub mod NearLemmas
+pub mod AdjacencyLemmas
 pub mod NodeLemmas
 pub mod ColumnLemmas
 pub mod StepLemmas

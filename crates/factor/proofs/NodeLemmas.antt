@@ -22,10 +22,10 @@ use Rattle.factor.specs.Eliminate.{IsEliminated, IsPanelBreakdown}
 use Rattle.factor.specs.Scalar.{IsBreakdownAt, fault_of}
 use Rattle.factor.specs.declared.eliminate.Breakdown.{Breakdown}
 use Rattle.factor.specs.declared.eliminate.Breakdown.TheVariants.{Pivot, Wide, NoMemory}
-use Rattle.factor.specs.Squares.{total_of, AddsSquares, HasWideSum}
+use Rattle.factor.specs.Squares.{total_squares, AddsSquares, HasWideSum}
 use Rattle.sym_blocks.specs.Matrix.{Matrix}
 use Rattle.factor.specs.declared.panel.Panel.{Panel}
-use Rattle.factor.specs.State.{IsLeftFor, AreChildSums, IsFront}
+use Rattle.factor.specs.State.{IsSchurComplement, AreChildSums, IsFront}
 use Rattle.factor.proofs.GatherLemmas.{kept_for-past}
 
 -- a rising list that begins at n or later, and has n
@@ -59,7 +59,7 @@ later_is {size} {n} {nodes} f p some lt =
     omega arith
 
 -- what is left is that of the panel
-pub panel_left : {a : ℕ → ℕ → ℤ} {size n : ℕ} {nodes : List ℕ} {work : List ℤ} → IsOwnFront size n nodes → IsLeftFor a size n nodes work → L.IsPanel a (by_rows work) (6 * n) (6 * length nodes) (position nodes)
+pub panel_left : {a : ℕ → ℕ → ℤ} {size n : ℕ} {nodes : List ℕ} {work : List ℤ} → IsOwnFront size n nodes → IsSchurComplement a size n nodes work → L.IsPanel a (by_rows work) (6 * n) (6 * length nodes) (position nodes)
 panel_left {a} {size} {n} {nodes} {work} f w =
     let first = first_is f in
     let some = first.0 in
@@ -106,7 +106,7 @@ zero_row a n i past none (suc m) le c cl =
     none_left z = omega (arith, ints)
 
 -- the entries kept are those of the factor
-pub entry_kept : {a : ℕ → ℕ → ℤ} {size n : ℕ} {nodes : List ℕ} {work entries : List ℤ} → IsOwnFront size n nodes → IsLeftFor a size n nodes work → IsEliminated (by_rows work) (length work) entries → (q r c : ℕ) → n ≤ q → q < size → r < 6 → c < 6 → kept_for 36 nodes entries q (6 * r + c) ≡ cholesky a (6 * q + r) (6 * n + c)
+pub entry_kept : {a : ℕ → ℕ → ℤ} {size n : ℕ} {nodes : List ℕ} {work entries : List ℤ} → IsOwnFront size n nodes → IsSchurComplement a size n nodes work → IsEliminated (by_rows work) (length work) entries → (q r c : ℕ) → n ≤ q → q < size → r < 6 → c < 6 → kept_for 36 nodes entries q (6 * r + c) ≡ cholesky a (6 * q + r) (6 * n + c)
 entry_kept {a} {size} {n} {nodes} {work} {entries} f w e q r c nq qs rl cl =
     let p = place_of q nodes in
     elim (cases_lt p (length nodes)) [
@@ -172,7 +172,7 @@ plus_swap : (x y : ℤ) → x +ℤ y ≡ y +ℤ x
 plus_swap x y = omega (arith, int_sums)
 
 -- a row's squares over the subtree
-pub row_squares_are : {a : ℕ → ℕ → ℤ} {parents : List (Option ℕ)} {size n : ℕ} {nodes : List ℕ} {old work entries : List ℤ} → IsOwnFront size n nodes → IsLeftFor a size n nodes work → IsEliminated (by_rows work) (length work) entries → AreChildSums a parents size n nodes old → (q r : ℕ) → n ≤ q → q < size → r < 6 → kept_for 6 nodes old q r +ℤ sum_below 6 (λ c. kept_for 36 nodes entries q (6 * r + c) *ℤ kept_for 36 nodes entries q (6 * r + c)) ≡ squares a parents n (6 * q + r)
+pub row_squares_are : {a : ℕ → ℕ → ℤ} {parents : List (Option ℕ)} {size n : ℕ} {nodes : List ℕ} {old work entries : List ℤ} → IsOwnFront size n nodes → IsSchurComplement a size n nodes work → IsEliminated (by_rows work) (length work) entries → AreChildSums a parents size n nodes old → (q r : ℕ) → n ≤ q → q < size → r < 6 → kept_for 6 nodes old q r +ℤ sum_below 6 (λ c. kept_for 36 nodes entries q (6 * r + c) *ℤ kept_for 36 nodes entries q (6 * r + c)) ≡ squares a parents n (6 * q + r)
 row_squares_are {a} {parents} {size} {n} {nodes} {old} {work} {entries} f w e s q r nq qs rl =
     ap (λ z. kept_for 6 nodes old q r +ℤ z)
     (sum_below-same 6 (λ c. kept_for 36 nodes entries q (6 * r + c) *ℤ kept_for 36 nodes entries q (6 * r + c)) (λ c. cholesky a (6 * q + r) (6 * n + c) *ℤ cholesky a (6 * q + r) (6 * n + c))
@@ -182,7 +182,7 @@ row_squares_are {a} {parents} {size} {n} {nodes} {old} {work} {entries} f w e s 
     ∙ sym (squares-children a parents n (6 * q + r))
 
 -- a node's pivots
-pub node_pivots : {a : ℕ → ℕ → ℤ} {size n : ℕ} {nodes : List ℕ} {work : List ℤ} → IsOwnFront size n nodes → IsLeftFor a size n nodes work → (m : ℕ) → m ≤ 6 → ((c : ℕ) → c < m → pos 1 ≤ℤ pivot (by_rows work) c) → (j : ℕ) → 6 * n ≤ j → j < 6 * n + m → pos 1 ≤ℤ pivot a j
+pub node_pivots : {a : ℕ → ℕ → ℤ} {size n : ℕ} {nodes : List ℕ} {work : List ℤ} → IsOwnFront size n nodes → IsSchurComplement a size n nodes work → (m : ℕ) → m ≤ 6 → ((c : ℕ) → c < m → pos 1 ≤ℤ pivot (by_rows work) c) → (j : ℕ) → 6 * n ≤ j → j < 6 * n + m → pos 1 ≤ℤ pivot a j
 node_pivots {a} {size} {n} {nodes} {work} f w m le pivots j from lt =
     let c = j - 6 * n in
     let at : 6 * n + c ≡ j = omega arith in
@@ -190,7 +190,7 @@ node_pivots {a} {size} {n} {nodes} {work} f w m le pivots j from lt =
     subst P at (rw (← panel-pivot (panel_left f w) c (omega arith)) (pivots c (omega arith)))
 
 -- the node's columns, whole
-pub node_panel : {a : ℕ → ℕ → ℤ} {parents : List (Option ℕ)} {size n : ℕ} {nodes : List ℕ} {old new work entries : List ℤ} → n < size → IsOwnFront size n nodes → IsLeftFor a size n nodes work → IsEliminated (by_rows work) (length work) entries → AreChildSums a parents size n nodes old → length new ≡ length old → AddsSquares old new entries → IsPanel a parents size n nodes entries new
+pub node_panel : {a : ℕ → ℕ → ℤ} {parents : List (Option ℕ)} {size n : ℕ} {nodes : List ℕ} {old new work entries : List ℤ} → n < size → IsOwnFront size n nodes → IsSchurComplement a size n nodes work → IsEliminated (by_rows work) (length work) entries → AreChildSums a parents size n nodes old → length new ≡ length old → AddsSquares old new entries → IsPanel a parents size n nodes entries new
 node_panel {a} {parents} {size} {n} {nodes} {old} {new} {work} {entries} in' f w e s len adds =
     record {
       rising = f.rising;
@@ -213,7 +213,7 @@ kept_small width nodes entries q s small =
     ]
 
 -- the node passes
-pub node_passes : {a : ℕ → ℕ → ℤ} {parents : List (Option ℕ)} {size n : ℕ} {nodes : List ℕ} {old new work entries : List ℤ} → n < size → IsOwnFront size n nodes → IsLeftFor a size n nodes work → IsEliminated (by_rows work) (length work) entries → AreChildSums a parents size n nodes old → length new ≡ length old → AddsSquares old new entries → Passes a parents size n
+pub node_passes : {a : ℕ → ℕ → ℤ} {parents : List (Option ℕ)} {size n : ℕ} {nodes : List ℕ} {old new work entries : List ℤ} → n < size → IsOwnFront size n nodes → IsSchurComplement a size n nodes work → IsEliminated (by_rows work) (length work) entries → AreChildSums a parents size n nodes old → length new ≡ length old → AddsSquares old new entries → Passes a parents size n
 node_passes {a} {parents} {size} {n} {nodes} {old} {new} {work} {entries} in' f w e s len adds =
     let panel = node_panel in' f w e s len adds in
     record {
@@ -258,7 +258,7 @@ node_passes {a} {parents} {size} {n} {nodes} {old} {new} {work} {entries} in' f 
     }
 
 -- a row's total is its squares over the subtree
-pub wide_row : {a : ℕ → ℕ → ℤ} {parents : List (Option ℕ)} {size n : ℕ} {nodes : List ℕ} {old work entries : List ℤ} → IsOwnFront size n nodes → IsLeftFor a size n nodes work → IsEliminated (by_rows work) (length work) entries → AreChildSums a parents size n nodes old → HasWideSum old entries → HasWideRow a parents size n
+pub wide_row : {a : ℕ → ℕ → ℤ} {parents : List (Option ℕ)} {size n : ℕ} {nodes : List ℕ} {old work entries : List ℤ} → IsOwnFront size n nodes → IsSchurComplement a size n nodes work → IsEliminated (by_rows work) (length work) entries → AreChildSums a parents size n nodes old → HasWideSum old entries → HasWideRow a parents size n
 wide_row {a} {parents} {size} {n} {nodes} {old} {work} {entries} f w e s (row, from, lt, large) =
     let p = row / 6 in
     let r = row % 6 in
@@ -268,7 +268,7 @@ wide_row {a} {parents} {size} {n} {nodes} {old} {work} {entries} f w e s (row, f
     let bounds = f.from_own p 0 p-in in
     let place = place_of-at nodes p f.rising p-in in
     let old_at : row ≡ 6 * place_of q nodes + r = omega arith in
-    let total : total_of old entries row ≡ squares a parents n (6 * q + r) =
+    let total : total_squares old entries row ≡ squares a parents n (6 * q + r) =
     ap (λ (x : ℕ). get_or old x (pos 0) +ℤ sum_below 6 (λ c. by_rows entries row c *ℤ by_rows entries row c)) old_at
     ∙ ap (λ z. kept_for 6 nodes old q r +ℤ z)
     (sum_below-same 6 (λ c. by_rows entries row c *ℤ by_rows entries row c) (λ c. kept_for 36 nodes entries q (6 * r + c) *ℤ kept_for 36 nodes entries q (6 * r + c))
@@ -280,7 +280,7 @@ wide_row {a} {parents} {size} {n} {nodes} {old} {work} {entries} f w e s (row, f
     (6 * q + r, (omega arith, omega (arith, bounds.1)), rw (← total) large)
 
 -- a large entry past the node
-pub large_entry : {a : ℕ → ℕ → ℤ} {size n : ℕ} {nodes : List ℕ} {work : List ℤ} → IsOwnFront size n nodes → IsLeftFor a size n nodes work → (s : ℕ) → s < length work → 2 ^ 57 ≤ unsigned_abs (cholesky (by_rows work) (s / 6) (s % 6)) → HasLargeEntry a size n
+pub large_entry : {a : ℕ → ℕ → ℤ} {size n : ℕ} {nodes : List ℕ} {work : List ℤ} → IsOwnFront size n nodes → IsSchurComplement a size n nodes work → (s : ℕ) → s < length work → 2 ^ 57 ≤ unsigned_abs (cholesky (by_rows work) (s / 6) (s % 6)) → HasLargeEntry a size n
 large_entry {a} {size} {n} {nodes} {work} f w s lt large =
     let r = s / 6 in
     let c = s % 6 in
@@ -290,7 +290,7 @@ large_entry {a} {size} {n} {nodes} {work} f w s lt large =
     (position nodes r, 6 * n + c, omega (arith, bounds.1), (omega arith, omega arith), rw (← is) large)
 
 -- a pivot below 1
-pub low_pivot : {a : ℕ → ℕ → ℤ} {parents : List (Option ℕ)} {size n : ℕ} {nodes : List ℕ} {work : List ℤ} → n < size → ((m : ℕ) → m < n → Passes a parents size m) → IsOwnFront size n nodes → IsLeftFor a size n nodes work → (r : ℕ) → r < 6 → ((c : ℕ) → c < r → pos 1 ≤ℤ pivot (by_rows work) c) → pivot (by_rows work) r <ℤ pos 1 → BreaksAtPivot a parents size (6 * n + r)
+pub low_pivot : {a : ℕ → ℕ → ℤ} {parents : List (Option ℕ)} {size n : ℕ} {nodes : List ℕ} {work : List ℤ} → n < size → ((m : ℕ) → m < n → Passes a parents size m) → IsOwnFront size n nodes → IsSchurComplement a size n nodes work → (r : ℕ) → r < 6 → ((c : ℕ) → c < r → pos 1 ≤ℤ pivot (by_rows work) c) → pivot (by_rows work) r <ℤ pos 1 → BreaksAtPivot a parents size (6 * n + r)
 low_pivot {a} {parents} {size} {n} {nodes} {work} in' before f w r rl pivots low =
     record {
       column = omega arith;
@@ -300,7 +300,7 @@ low_pivot {a} {parents} {size} {n} {nodes} {work} in' before f w r rl pivots low
     }
 
 -- the diagonal is bounded above
-pub diagonal_low : {a : ℕ → ℕ → ℤ} {size n : ℕ} {nodes : List ℕ} {work : List ℤ} → ((i j : ℕ) → unsigned_abs (a i j) < 2 ^ 113) → IsOwnFront size n nodes → IsLeftFor a size n nodes work → (c : ℕ) → c < 6 → by_rows work c c <ℤ pos (2 ^ 113)
+pub diagonal_low : {a : ℕ → ℕ → ℤ} {size n : ℕ} {nodes : List ℕ} {work : List ℤ} → ((i j : ℕ) → unsigned_abs (a i j) < 2 ^ 113) → IsOwnFront size n nodes → IsSchurComplement a size n nodes work → (c : ℕ) → c < 6 → by_rows work c c <ℤ pos (2 ^ 113)
 diagonal_low {a} {size} {n} {nodes} {work} small f w c cl =
     let p = panel_left f w in
     let whole = p.whole in
@@ -310,11 +310,11 @@ diagonal_low {a} {size} {n} {nodes} {work} small f w c cl =
     rw is (left_after-low a (6 * n) (6 * n + c) (small (6 * n + c) (6 * n + c)))
 
 -- the front of a node, whole
-pub front_own : {k : Matrix} {order : List ℕ} {parents : List (Option ℕ)} {panels : List Panel} {users : List ℕ} {n : ℕ} {nodes : List ℕ} → IsFront k order parents panels users n nodes → IsOwnFront (length order) n nodes
+pub front_own : {k : Matrix} {order : List ℕ} {parents : List (Option ℕ)} {panels : List Panel} {row_pattern : List ℕ} {n : ℕ} {nodes : List ℕ} → IsFront k order parents panels row_pattern n nodes → IsOwnFront (length order) n nodes
 front_own f = record { rising = f.rising; from_own = f.from_own; own = f.own }
 
 -- a breakdown of the panel is one of the recurrence
-pub node_breakdown : (a : ℕ → ℕ → ℤ) (order : List ℕ) (parents : List (Option ℕ)) (n : ℕ) (nodes : List ℕ) (work : List ℤ) (breakdown : Breakdown) → n < length order → ((m : ℕ) → m < n → Passes a parents (length order) m) → IsOwnFront (length order) n nodes → IsLeftFor a (length order) n nodes work → IsPanelBreakdown (by_rows work) (length work) breakdown → IsBreakdownAt a order parents n (fault_of (get_or order n 0) breakdown)
+pub node_breakdown : (a : ℕ → ℕ → ℤ) (order : List ℕ) (parents : List (Option ℕ)) (n : ℕ) (nodes : List ℕ) (work : List ℤ) (breakdown : Breakdown) → n < length order → ((m : ℕ) → m < n → Passes a parents (length order) m) → IsOwnFront (length order) n nodes → IsSchurComplement a (length order) n nodes work → IsPanelBreakdown (by_rows work) (length work) breakdown → IsBreakdownAt a order parents n (fault_of (get_or order n 0) breakdown)
 node_breakdown a order parents n nodes work (Pivot r) in' before f w (rl, pivots, low) = (refl, rl, low_pivot in' before f w r rl pivots low)
 node_breakdown a order parents n nodes work Wide in' before f w (pivots, (s, from, lt, large)) = (
   refl,

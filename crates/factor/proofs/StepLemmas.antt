@@ -1,4 +1,4 @@
--- The panels and their users, one node after another.
+-- The panels and the row patterns, one node after another.
 use Rattle.std.proofs.Common.{◌≡◌, ℕ, ◌+◌, ◌*◌, ◌/◌, ◌%◌, ◌<◌, List, [], ◌∷◌, ◌++◌, Option, length, get_or, map, Contains, ◌∙◌, sym, ap, arith, subst, inl, inr, ◌^◌, ◌≤ℤ◌, to_z, of_z, ℤ, pos, cond}
 use Rattle.std.specs.Prelude.{Result, IsErrAnd, MatchResult}
 use Rattle.std.proofs.lemmas.Result.{err_from_is_err_and}
@@ -9,7 +9,7 @@ use Rattle.factor_data.specs.Columns.{ColumnLists}
 use Rattle.cholesky_laws.specs.Recurrence.{cholesky}
 use Rattle.cholesky_laws.proofs.RecurrenceLemmas.{cholesky-above}
 use Rattle.factor.specs.Panel.{kept_for}
-use Rattle.factor.specs.State.{ArePanels, AreUsers, IsNodePanel, nodes_at, entries_at, sums_at}
+use Rattle.factor.specs.State.{ArePanels, IsRowPattern, IsNodePanel, nodes_at, entries_at, sums_at}
 use Rattle.factor.specs.Columns.{ArePanelShapes, HasColumns}
 use Rattle.lists.specs.Lists.{ListsInAll}
 use Rattle.factor.specs.Scalar.{IsFactorOf, IsBreakdown}
@@ -57,8 +57,8 @@ panels_more a parents size n panels p before new =
           ];
     }
 
-pub users_more : (n q : ℕ) (panels : List Panel) (p : Panel) (old new : List (List ℕ)) → length panels ≡ n → AreUsers panels n q (list_of old q) → ListsInAll old new p.nodes.items n → AreUsers (panels ++ p ∷ []) (n + 1) q (list_of new q)
-users_more n q panels p old new count users listed =
+pub row_pattern_more : (n q : ℕ) (panels : List Panel) (p : Panel) (old new : List (List ℕ)) → length panels ≡ n → IsRowPattern panels n q (list_of old q) → ListsInAll old new p.nodes.items n → IsRowPattern (panels ++ p ∷ []) (n + 1) q (list_of new q)
+row_pattern_more n q panels p old new count row_pattern listed =
     let P : List ℕ → Type 0 = λ xs. Contains xs q in
     record {
       rising = listed.rising q;
@@ -66,14 +66,14 @@ users_more n q panels p old new count users listed =
         λ h.
             elim ((listed.members q d).0 h) [
               | inl before ↦
-                  (let was = (users.reaching d).0 before in
+                  (let was = (row_pattern.reaching d).0 before in
                   (omega (arith, was.0), subst P (sym (part_before (λ (x : Panel). x.nodes.items) panels p d (omega (arith, was.0, count)))) was.1))
               | inr (named, same) ↦ (omega (arith, same), subst P (sym (part_here (λ (x : Panel). x.nodes.items) panels p d (same ∙ sym count))) named)
             ],
         λ (lt, reaches).
             (listed.members q d).1
             (elim (cases_lt d n) [
-              | inl before ↦ inl ((users.reaching d).1 (before, subst P (part_before (λ (x : Panel). x.nodes.items) panels p d (omega (arith, count))) reaches))
+              | inl before ↦ inl ((row_pattern.reaching d).1 (before, subst P (part_before (λ (x : Panel). x.nodes.items) panels p d (omega (arith, count))) reaches))
               | inr from ↦ inr (subst P (part_here (λ (x : Panel). x.nodes.items) panels p d (omega (arith, count))) reaches, omega arith)
             ]),
       );

@@ -1,9 +1,8 @@
--- Lists of users, and the columns of a factor from panels.
+-- Row patterns, and the columns of a factor from panels.
 use Rattle.std.specs.Prelude.{◌≡◌, ℕ, ◌+◌, ◌*◌, ◌/◌, ◌%◌, ◌<◌, ◌≤◌, List, length, slice_index, slice_index_or, Contains, All, nat_lt, if◌then◌else◌, ◌⊎◌, ◌↔◌, ℤ, pos}
 use Rattle.lists.specs.Rising.{IsRising}
 use Rattle.lists.specs.Lists.{list_of}
-use Rattle.factor_data.specs.Columns.{entry}
-use Rattle.factor_data.specs.Columns.{ColumnLists}
+use Rattle.factor_data.specs.Columns.{ColumnLists, factor_entry}
 use Rattle.factor.specs.Panel.{kept_for}
 use Rattle.factor.specs.State.{nodes_at, entries_at}
 use Rattle.factor.specs.declared.panel.Panel.{Panel}
@@ -20,7 +19,7 @@ pub record ArePanelShapes (size : ℕ) (panels : List Panel) : Type 0 where
 pub record HasColumns (order : List ℕ) (panels : List Panel) (f : ColumnLists) : Type 0 where
   pub order_is : f.order ≡ order
   pub entries : (i j : ℕ) → j < 6 * length order →
-      entry f i j ≡ (if nat_lt i j then pos 0 else kept_for 36 (nodes_at panels (j / 6)) (entries_at panels (j / 6)) (i / 6) (6 * (i % 6) + j % 6))
+      factor_entry f i j ≡ (if nat_lt i j then pos 0 else kept_for 36 (nodes_at panels (j / 6)) (entries_at panels (j / 6)) (i / 6) (6 * (i % 6) + j % 6))
 
 -- the positions of a node's column
 pub record AreColumnRows (nodes : List ℕ) (column : ℕ) (rows : List ℕ) : Type 0 where

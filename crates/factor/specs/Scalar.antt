@@ -2,8 +2,7 @@
 use Rattle.std.specs.Prelude.{◌≡◌, ℕ, ◌+◌, ◌*◌, ◌<◌, List, Option, ◌≤◌, length, slice_index, ℤ, ⊤}
 use Rattle.cholesky_laws.specs.Recurrence.{cholesky}
 use Rattle.cholesky_laws.specs.Breakdown.{PassesWhole, BreaksAtPivot, BreaksWide}
-use Rattle.factor_data.specs.Columns.{entry}
-use Rattle.factor_data.specs.Columns.{ColumnLists}
+use Rattle.factor_data.specs.Columns.{ColumnLists, factor_entry}
 use Rattle.factor.specs.declared.fault.ScalarFault.{ScalarFault}
 use Rattle.factor.specs.declared.fault.ScalarFault.TheVariants.{Pivot, Wide, NoMemory}
 use Rattle.factor.specs.declared.eliminate.Breakdown.{Breakdown}
@@ -12,7 +11,7 @@ use Rattle.factor.specs.declared.eliminate.Breakdown.TheVariants as B
 -- the factor is that of the recurrence, which does not break down
 pub record IsFactorOf (a : ℕ → ℕ → ℤ) (order : List ℕ) (parents : List (Option ℕ)) (f : ColumnLists) : Type 0 where
   pub order_is : f.order ≡ order
-  pub entries : (i j : ℕ) → i < 6 * length order → j < 6 * length order → entry f i j ≡ cholesky a i j
+  pub entries : (i j : ℕ) → i < 6 * length order → j < 6 * length order → factor_entry f i j ≡ cholesky a i j
   pub passes : PassesWhole a parents (length order)
 
 -- the breakdown of a node's columns, told of the node

@@ -5,7 +5,7 @@ use Rattle.int_laws.specs.Sums.{sum_below}
 use Rattle.std.specs.Int.RustNames.{unsigned_abs}
 use Rattle.lists.specs.Rising.{IsRising}
 use Rattle.sym_blocks.specs.Matrix.{Matrix, node_count, HasBlock, IsSymmetricByBlocks, entry as stiffness}
-use Rattle.cholesky_laws.specs.Recurrence.{left_after, scaled}
+use Rattle.cholesky_laws.specs.Recurrence.{left_after, scaled_stiffness}
 use Rattle.elimination.specs.Elimination.{AreParents, parent_of}
 use Rattle.cholesky_laws.specs.Breakdown.{Passes, squares}
 use Rattle.lists.specs.Order.{IsOrder}
@@ -14,7 +14,7 @@ use Rattle.factor.specs.declared.panel.Panel.{Panel}
 
 -- the matrix that is factorised
 abbrev pub matrix_of : Matrix → List ℕ → ℤ → ℕ → ℕ → ℤ
-matrix_of k order shift = scaled (stiffness k) order shift
+matrix_of k order shift = scaled_stiffness (stiffness k) order shift
 
 -- what is factorised is within the limits
 pub record IsProblem (k : Matrix) (order : List ℕ) (parents : List (Option ℕ)) (shift : ℤ) : Type 0 where
@@ -48,19 +48,19 @@ pub record ArePanels (a : ℕ → ℕ → ℤ) (parents : List (Option ℕ)) (si
   pub count : length panels ≡ n
   pub known : (d : ℕ) → d < n → IsNodePanel a parents size d (nodes_at panels d) (entries_at panels d) (sums_at panels d)
 
--- users are the nodes before n whose columns reach node q, in order
-pub record AreUsers (panels : List Panel) (n q : ℕ) (users : List ℕ) : Type 0 where
-  pub rising : IsRising users
-  pub reaching : (d : ℕ) → Contains users d ↔ ((d < n) × Contains (nodes_at panels d) q)
+-- the row pattern of node q: the nodes before n whose columns reach it, in order
+pub record IsRowPattern (panels : List Panel) (n q : ℕ) (row_pattern : List ℕ) : Type 0 where
+  pub rising : IsRising row_pattern
+  pub reaching : (d : ℕ) → Contains row_pattern d ↔ ((d < n) × Contains (nodes_at panels d) q)
 
 -- the nodes that a node's columns reach are kept
-pub record IsFront (k : Matrix) (order : List ℕ) (parents : List (Option ℕ)) (panels : List Panel) (users : List ℕ) (n : ℕ) (nodes : List ℕ) : Type 0 where
+pub record IsFront (k : Matrix) (order : List ℕ) (parents : List (Option ℕ)) (panels : List Panel) (row_pattern : List ℕ) (n : ℕ) (nodes : List ℕ) : Type 0 where
   pub rising : IsRising nodes
   pub from_own : All (λ q. (n ≤ q) × (q < length order)) nodes
   pub own : Contains nodes n
   pub parent : (u : ℕ) → parent_of parents n ≡ Some u → Contains nodes u
   pub matrix : (q : ℕ) → n < q → q < length order → HasBlock k (slice_index order n) (slice_index order q) → Contains nodes q
-  pub reached : (d q : ℕ) → Contains users d → n < q → Contains (nodes_at panels d) q → Contains nodes q
+  pub reached : (d q : ℕ) → Contains row_pattern d → n < q → Contains (nodes_at panels d) q → Contains nodes q
   pub kept : IsSymmetricByBlocks k
 
 -- node n is the parent of node d
@@ -71,8 +71,8 @@ is_parent parents n d = option_map_or (λ v. nat_eq v n) (parent_of parents d) f
 abbrev pub HoldsLeft : (ℕ → ℕ → ℤ) → ℕ → ℕ → List ℕ → List ℤ → ℕ → Type 0
 HoldsLeft a size n nodes work m = (q t : ℕ) → n ≤ q → q < size → t < 36 → kept_for 36 nodes work q t ≡ left_after a (6 * m) (6 * q + t / 6) (6 * n + t % 6)
 
--- what is left for a node's rows, after the columns of all nodes before
-pub record IsLeftFor (a : ℕ → ℕ → ℤ) (size n : ℕ) (nodes : List ℕ) (work : List ℤ) : Type 0 where
+-- the Schur complement in a node's columns: what is left of its rows after the columns of all nodes before
+pub record IsSchurComplement (a : ℕ → ℕ → ℤ) (size n : ℕ) (nodes : List ℕ) (work : List ℤ) : Type 0 where
   pub whole : length work ≡ 36 * length nodes
   pub holds : HoldsLeft a size n nodes work n
 

@@ -1,7 +1,7 @@
 ghost use Rattle.std.specs.Prelude.{◌≡◌, ℕ, ◌+◌, ◌*◌, ◌^◌, ◌<◌, ◌≤◌, All, length, MatchOption, MatchResult, Some, ℤ, pos, ◌≤ℤ◌, ◌<ℤ◌, slice_index_or};
 ghost use Rattle.std.specs.Int.RustNames.{unsigned_abs};
 ghost use Rattle.int_laws.specs.Division.{nearest_of};
-ghost use Rattle.flex_num.specs.Root.{root_of};
+ghost use Rattle.int_laws.specs.Root.{root_of};
 ghost use Rattle.factor.specs.Panel.{AllSmall, by_rows, left_in_row};
 ghost use Rattle.factor.specs.Eliminate.{IsEliminated, IsPanelBreakdown};
 ghost use Rattle.factor.specs.declared.eliminate.Breakdown.TheVariants.{NoMemory};

@@ -6,9 +6,9 @@ mod eliminate;
 mod fault;
 mod front;
 mod gather;
-mod load;
 mod panel;
 mod recurrence;
+mod scatter;
 mod squares;
 
 pub use fault::ScalarFault;

@@ -1,12 +1,12 @@
 ghost use Rattle.std.specs.Prelude.{◌≡◌, ℕ, ◌+◌, ◌*◌, ◌<◌, ◌≤◌, IfOk, MatchResult, length, slice_index, []};
-ghost use Rattle.factor.specs.State.{IsProblem, matrix_of, ArePanels, AreUsers, IsFront, IsNodePanel, IsLeftFor, AreChildSums, is_parent, IsWithParent};
+ghost use Rattle.factor.specs.State.{IsProblem, matrix_of, ArePanels, IsRowPattern, IsFront, IsNodePanel, IsSchurComplement, AreChildSums, is_parent, IsWithParent};
 ghost use Rattle.factor.specs.Scalar.{IsBreakdownAt, fault_of};
 
 use crate::eliminate::{Breakdown, eliminate};
 use crate::fault::ScalarFault;
 use crate::front::places_of;
 use crate::gather::{add_squares, gather};
-use crate::load::{Problem, load};
+use crate::scatter::{Problem, scatter};
 use crate::squares::add_own;
 use lists::{Permutation, insert_later, insert_rising};
 use std::alloc::{AllocError, Global};
@@ -22,29 +22,29 @@ pub struct Panel {
     pub sums: Vec<i128>,
 }
 
-// The columns of a node, from those of the nodes before; `users` are those that reach it.
+// The columns of a node, from those of the nodes before; `row_pattern` has those whose columns reach it.
 pub fn eliminate_node(
     alloc: Global,
     problem: &Problem,
     panels: &[Panel],
-    users: &[u32],
+    row_pattern: &[u32],
     node: u32,
 ) -> Result<Panel, ScalarFault>
     requires problem { IsProblem problem.now.matrix.now problem.now.order.now problem.now.parents.now problem.now.shift }
     requires node_in { node < length problem.now.order.now }
     requires panels { ArePanels (matrix_of problem.now.matrix.now problem.now.order.now problem.now.shift) problem.now.parents.now (length problem.now.order.now) node panels.now }
-    requires users { AreUsers panels.now node node users.now }
+    requires row_pattern { IsRowPattern panels.now node node row_pattern.now }
     ensures { MatchResult result
         (λ p. IsNodePanel (matrix_of problem.now.matrix.now problem.now.order.now problem.now.shift) problem.now.parents.now (length problem.now.order.now) node p.nodes.items p.entries.items p.sums.items)
         (IsBreakdownAt (matrix_of problem.now.matrix.now problem.now.order.now problem.now.shift) problem.now.order.now problem.now.parents.now node) }
 {
-    let nodes = front(alloc, problem, panels, users, node)?;
-    let work = left_for(alloc, problem, &nodes, panels, users, node)?;
+    let nodes = front(alloc, problem, panels, row_pattern, node)?;
+    let work = schur_complement(alloc, problem, &nodes, panels, row_pattern, node)?;
     let entries = match eliminate(alloc, &work) {
         Ok(entries) => entries,
         Err(breakdown) => return Err(fault_at(problem.order, node, breakdown)),
     };
-    let mut sums = child_sums(alloc, problem, &nodes, panels, users, node)?;
+    let mut sums = child_sums(alloc, problem, &nodes, panels, row_pattern, node)?;
     if !add_own(&mut sums, &entries) {
         return Err(ScalarFault::Wide {
             node: problem.order.number_at(node),
@@ -63,24 +63,24 @@ fn front(
     alloc: Global,
     problem: &Problem,
     panels: &[Panel],
-    users: &[u32],
+    row_pattern: &[u32],
     node: u32,
 ) -> Result<Vec<u32>, AllocError>
     requires problem { IsProblem problem.now.matrix.now problem.now.order.now problem.now.parents.now problem.now.shift }
     requires node_in { node < length problem.now.order.now }
     requires panels { ArePanels (matrix_of problem.now.matrix.now problem.now.order.now problem.now.shift) problem.now.parents.now (length problem.now.order.now) node panels.now }
-    requires users { AreUsers panels.now node node users.now }
-    ensures { IfOk result (λ nodes. IsFront problem.now.matrix.now problem.now.order.now problem.now.parents.now panels.now users.now node nodes.items) }
+    requires row_pattern { IsRowPattern panels.now node node row_pattern.now }
+    ensures { IfOk result (λ nodes. IsFront problem.now.matrix.now problem.now.order.now problem.now.parents.now panels.now row_pattern.now node nodes.items) }
 {
-    let mut nodes = near(alloc, problem, node)?;
-    for &user in users {
-        insert_later(&mut nodes, &panels[user as usize].nodes, node)?;
+    let mut nodes = adjacency(alloc, problem, node)?;
+    for &earlier in row_pattern {
+        insert_later(&mut nodes, &panels[earlier as usize].nodes, node)?;
     }
     Ok(nodes)
 }
 
 // The node itself, its parent and its later neighbours.
-fn near(alloc: Global, problem: &Problem, node: u32) -> Result<Vec<u32>, AllocError>
+fn adjacency(alloc: Global, problem: &Problem, node: u32) -> Result<Vec<u32>, AllocError>
     requires problem { IsProblem problem.now.matrix.now problem.now.order.now problem.now.parents.now problem.now.shift }
     requires node_in { node < length problem.now.order.now }
     ensures { IfOk result (λ nodes. IsFront problem.now.matrix.now problem.now.order.now problem.now.parents.now [] [] node nodes.items) }
@@ -107,25 +107,25 @@ fn with_parent(alloc: Global, parents: &[Option<u32>], node: u32) -> Result<Vec<
     Ok(nodes)
 }
 
-// What is left for a node's rows after the columns before.
-fn left_for(
+// The Schur complement in a node's columns: what is left of its rows after the columns before.
+fn schur_complement(
     alloc: Global,
     problem: &Problem,
     nodes: &[u32],
     panels: &[Panel],
-    users: &[u32],
+    row_pattern: &[u32],
     node: u32,
 ) -> Result<Vec<i128>, AllocError>
     requires problem { IsProblem problem.now.matrix.now problem.now.order.now problem.now.parents.now problem.now.shift }
     requires node_in { node < length problem.now.order.now }
     requires panels { ArePanels (matrix_of problem.now.matrix.now problem.now.order.now problem.now.shift) problem.now.parents.now (length problem.now.order.now) node panels.now }
-    requires users { AreUsers panels.now node node users.now }
-    requires front { IsFront problem.now.matrix.now problem.now.order.now problem.now.parents.now panels.now users.now node nodes.now }
-    ensures { IfOk result (λ work. IsLeftFor (matrix_of problem.now.matrix.now problem.now.order.now problem.now.shift) (length problem.now.order.now) node nodes.now work.items) }
+    requires row_pattern { IsRowPattern panels.now node node row_pattern.now }
+    requires front { IsFront problem.now.matrix.now problem.now.order.now problem.now.parents.now panels.now row_pattern.now node nodes.now }
+    ensures { IfOk result (λ work. IsSchurComplement (matrix_of problem.now.matrix.now problem.now.order.now problem.now.shift) (length problem.now.order.now) node nodes.now work.items) }
 {
-    let mut work = load(alloc, problem, nodes, node)?;
-    for &user in users {
-        let panel = &panels[user as usize];
+    let mut work = scatter(alloc, problem, nodes, node)?;
+    for &earlier in row_pattern {
+        let panel = &panels[earlier as usize];
         gather(&mut work, nodes, &panel.nodes, &panel.entries, node);
     }
     Ok(work)
@@ -137,31 +137,31 @@ fn child_sums(
     problem: &Problem,
     nodes: &[u32],
     panels: &[Panel],
-    users: &[u32],
+    row_pattern: &[u32],
     node: u32,
 ) -> Result<Vec<i128>, AllocError>
     requires problem { IsProblem problem.now.matrix.now problem.now.order.now problem.now.parents.now problem.now.shift }
     requires node_in { node < length problem.now.order.now }
     requires panels { ArePanels (matrix_of problem.now.matrix.now problem.now.order.now problem.now.shift) problem.now.parents.now (length problem.now.order.now) node panels.now }
-    requires users { AreUsers panels.now node node users.now }
-    requires front { IsFront problem.now.matrix.now problem.now.order.now problem.now.parents.now panels.now users.now node nodes.now }
+    requires row_pattern { IsRowPattern panels.now node node row_pattern.now }
+    requires front { IsFront problem.now.matrix.now problem.now.order.now problem.now.parents.now panels.now row_pattern.now node nodes.now }
     ensures { IfOk result (λ sums. AreChildSums (matrix_of problem.now.matrix.now problem.now.order.now problem.now.shift) problem.now.parents.now (length problem.now.order.now) node nodes.now sums.items) }
 {
     let mut sums = vec![in alloc; 0; 6 * nodes.len()]?;
-    for &user in users {
-        if is_child(problem.parents, user, node) {
-            let panel = &panels[user as usize];
+    for &earlier in row_pattern {
+        if is_child(problem.parents, earlier, node) {
+            let panel = &panels[earlier as usize];
             add_squares(&mut sums, nodes, &panel.nodes, &panel.sums, node);
         }
     }
     Ok(sums)
 }
 
-fn is_child(parents: &[Option<u32>], user: u32, node: u32) -> bool
-    requires { user < length parents.now }
-    ensures { result ≡ is_parent parents.now node user }
+fn is_child(parents: &[Option<u32>], earlier: u32, node: u32) -> bool
+    requires { earlier < length parents.now }
+    ensures { result ≡ is_parent parents.now node earlier }
 {
-    match parents[user as usize] {
+    match parents[earlier as usize] {
         Some(parent) => parent == node,
         None => false,
     }

@@ -11,7 +11,7 @@ ghost use Rattle.lists.specs.Lists.{ListsInAll};
 ghost use Rattle.factor.specs.Scalar.{IsFactorOf, IsBreakdown};
 
 use crate::fault::ScalarFault;
-use crate::load::Problem;
+use crate::scatter::Problem;
 use crate::panel::{Panel, eliminate_node};
 use factor_data::Factor;
 use lists::{Permutation, empty_lists, list_in_all};
@@ -57,11 +57,11 @@ fn eliminate_all(alloc: Global, problem: &Problem) -> Result<Factor, ScalarFault
         (IsFactorOf (matrix_of problem.now.matrix.now problem.now.order.now problem.now.shift) problem.now.order.now problem.now.parents.now)
         (IsBreakdown (matrix_of problem.now.matrix.now problem.now.order.now problem.now.shift) problem.now.order.now problem.now.parents.now) }
 {
-    let mut users = empty_lists(alloc, problem.order.len())?;
+    let mut row_patterns = empty_lists(alloc, problem.order.len())?;
     let mut panels = Vec::with_capacity(alloc, problem.order.len())?;
     for node in 0..problem.order.len() {
-        let panel = eliminate_node(alloc, problem, &panels, &users[node], node as u32)?;
-        list_in_all(&mut users, &panel.nodes, node as u32)?;
+        let panel = eliminate_node(alloc, problem, &panels, &row_patterns[node], node as u32)?;
+        list_in_all(&mut row_patterns, &panel.nodes, node as u32)?;
         panels.push(panel)?;
     }
     Ok(columns(alloc, problem.order, &panels)?)

@@ -29,8 +29,8 @@ abbrev pub column_entry : List ℕ → List ℤ → ℕ → ℤ
 column_entry rows values i = column_part (λ z. z) (length rows) rows values i
 
 -- the entry at positions i and j
-abbrev pub entry : ColumnLists → ℕ → ℕ → ℤ
-entry f i j = column_entry (column_rows f j) (column_values f j) i
+abbrev pub factor_entry : ColumnLists → ℕ → ℕ → ℤ
+factor_entry f i j = column_entry (column_rows f j) (column_values f j) i
 
 -- the order is one, and there are six columns for each node, with rising positions from the column's own on and a
 -- value for each

@@ -34,7 +34,7 @@ impl Model for Factor {
 }
 
 impl Factor {
-    ghost use Rattle.factor_data.specs.Columns.{columns_of, column_rows, column_values, entry, IsFactor};
+    ghost use Rattle.factor_data.specs.Columns.{columns_of, column_rows, column_values, factor_entry, IsFactor};
 
     /// The factor with these columns, which it takes over.
     pub fn of_parts(order: Vec<u32>, rows: Vec<Vec<u32>>, values: Vec<Vec<i64>>) -> Factor
@@ -66,7 +66,7 @@ impl Factor {
 
     /// The entry at positions i and j, and 0 outside the lists.
     pub fn get(&self, i: u32, j: u32) -> i64
-        ensures { result ≡ entry self.now i j }
+        ensures { result ≡ factor_entry self.now i j }
     {
         let (rows, values) = self.column(j);
         match find_rising(rows, i) {

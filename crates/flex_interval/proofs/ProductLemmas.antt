@@ -7,7 +7,8 @@ use Rattle.int_laws.proofs.Products.{mul_comm, mul_assoc, le_mul, mul_positive}
 use Rattle.flex_interval.specs.Ends.{Ends}
 use Rattle.flex_interval.specs.Fraction.{Fraction, Within, scaled, times}
 use Rattle.flex_interval.specs.declared.fault.IvFault.{IvFault}
-use Rattle.flex_interval.specs.Operations.{ends, and_then, least, greatest, multiple_of, products_of, product_of}
+use Rattle.flex_interval.specs.Operations.{ends, least, greatest, multiple_of, products_of, product_of}
+use Rattle.lists.specs.Results.{and_then}
 use Rattle.flex_interval.proofs.EndsLemmas.{min_first, min_second, max_first, max_second}
 use Rattle.flex_interval.proofs.FractionLemmas.{below_between, above_between}
 

@@ -4,7 +4,7 @@ use Rattle.int_laws.specs.Powers.{power}
 use Rattle.int_laws.proofs.Sums.{int_sums}
 use Rattle.int_laws.proofs.Products.{mul_comm, mul_assoc, mul_nonnegative, le_mul}
 use Rattle.int_laws.proofs.Powers.{power-mul, power_positive, le_of_power, le-power}
-use Rattle.flex_num.specs.Root.{IsRoot, IsRootUp}
+use Rattle.int_laws.specs.Root.{IsRoot, IsRootUp}
 use Rattle.flex_interval.specs.Ends.{Ends, IsInterval}
 use Rattle.flex_interval.specs.Fraction.{Fraction, Within}
 use Rattle.flex_interval.specs.Roots.{EnclosesRoot, IsNonnegative, raised}

@@ -6,9 +6,9 @@ use Rattle.int_laws.specs.Powers.{power}
 use Rattle.int_laws.proofs.Sums.{int_sums}
 use Rattle.int_laws.proofs.Products.{le_mul, mul_comm, mul_nonnegative, zero-mul}
 use Rattle.int_laws.specs.Division.{floor_of, ceil_of}
-use Rattle.flex_num.specs.Root.{cube_root_of, cube_root_up_of}
+use Rattle.int_laws.specs.Root.{cube_root_of, cube_root_up_of}
 use Rattle.int_laws.proofs.DivisionLemmas.{floor_of-is, ceil_of-is, floor_greatest, ceiling_least}
-use Rattle.flex_num.proofs.RootLemmas.{cube_root_up_of-is}
+use Rattle.int_laws.proofs.RootLemmas.{cube_root_up_of-is}
 use Rattle.flex_interval.specs.Ends.{Ends}
 use Rattle.flex_interval.specs.Operations.{ends, multiple_of, products_of, mul_of, shifted_of, cbrt_of}
 use Rattle.flex_interval.proofs.FractionLemmas.{power_positive}

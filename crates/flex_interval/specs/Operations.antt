@@ -2,7 +2,8 @@
 use Rattle.std.specs.Prelude.{ℕ, suc, ◌^◌, Bool, ◌&&◌, ℤ, pos, negsuc, ◌+ℤ◌, ◌-ℤ◌, ◌*ℤ◌, neg_ℤ, unsigned_abs, int_lt, int_le, nat_lt, Result, Ok, Err, if◌then◌else◌}
 use Rattle.std.specs.Int.{int_min, int_max}
 use Rattle.int_laws.specs.Division.{floor_of, ceil_of}
-use Rattle.flex_num.specs.Root.{root_of, root_up_of, cube_root_of, cube_root_up_of}
+use Rattle.lists.specs.Results.{and_then}
+use Rattle.int_laws.specs.Root.{root_of, root_up_of, cube_root_of, cube_root_up_of}
 use Rattle.flex_interval.specs.Ends.{Ends}
 use Rattle.flex_interval.specs.declared.fault.IvFault.{IvFault}
 use Rattle.flex_interval.specs.declared.fault.IvFault.TheVariants as fault
@@ -20,11 +21,6 @@ ends lo hi = record { lo = lo; hi = hi }
 -- below 2^126 in size
 abbrev pub is_small : ℤ → Bool
 is_small x = nat_lt (unsigned_abs x) (2 ^ 126)
-
--- the next step on what a step answered; a fault stays
-abbrev pub and_then : {A B : Type 0} → Result A IvFault → (A → Result B IvFault) → Result B IvFault
-and_then (Ok a) next = next a
-and_then (Err e) next = Err e
 
 -- the same where a call has `Wide` as its only fault: any fault of a step becomes it
 abbrev pub or_wide : {A B : Type 0} → Result A IvFault → (A → Result B Wide) → Result B Wide

@@ -5,8 +5,8 @@ use Rattle.std.proofs.Math.Pow.{pow_mono}
 use Rattle.std.proofs.lemmas.Nat.{pow-add, one_shl}
 use Rattle.std.proofs.lemmas.Bool.{cases_lt}
 use Rattle.std.proofs.lemmas.Int.{ints}
-use Rattle.flex_num.specs.Root.{IsRoot}
-use Rattle.flex_num.proofs.RootLemmas.{root_between}
+use Rattle.int_laws.specs.Root.{IsRoot}
+use Rattle.int_laws.proofs.RootLemmas.{root_between}
 
 -- the arithmetic mean of t, r, r against the geometric one, in two cases
 mean_of_greater : (t r e : ℕ) → t + e ≡ r → 3 * (r * r * t) ≤ t * t * t + 2 * (r * r * r)
@@ -32,12 +32,6 @@ quotient_below n r positive =
 
 pub improved_above : (n r : ℕ) → 0 < r → n < ((2 * r + n / r / r) / 3 + 1) * ((2 * r + n / r / r) / 3 + 1) * ((2 * r + n / r / r) / 3 + 1)
 improved_above n r positive = mean_above n r (n / r / r) ((2 * r + n / r / r) / 3 + 1) (quotient_below n r positive) (omega arith)
-
--- where the mean isn't below r, neither is n / r^2
-pub improved_done : (n r : ℕ) → r ≤ (2 * r + n / r / r) / 3 → r * r * r ≤ n
-improved_done n r enough =
-    let quotient : r ≤ n / r / r = omega arith in
-    omega (arith, mul-le-mul_left (r * r) quotient, mul-le-mul_left r (mul-div-le (n / r) r), mul-div-le n r)
 
 pub shifted : (l : ℕ) → l < 128 → 1 * 2 ^ (l / 3 + 1) % 2 ^ 128 ≡ 2 ^ (l / 3 + 1)
 shifted l below = omega (arith, one_shl (l / 3 + 1) 128 (omega arith))

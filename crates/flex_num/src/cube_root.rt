@@ -1,5 +1,5 @@
 ghost use Rattle.std.specs.Prelude.{◌≡◌, ◌+◌, ◌*◌, ◌^◌, ◌<◌, ◌≤◌, pos, ◌≤ℤ◌};
-ghost use Rattle.flex_num.specs.Root.{IsRoot, IsRootUp, cube_root_of, cube_root_up_of};
+ghost use Rattle.int_laws.specs.Root.{IsRoot, IsRootUp, cube_root_of, cube_root_up_of};
 
 /// The cube root of `n` rounded down, for an `n` that isn't negative.
 pub fn icbrt(n: i128) -> i128

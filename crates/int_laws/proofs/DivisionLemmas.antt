@@ -180,3 +180,9 @@ pub above_divided : (q m p n d : ℤ) → pos 0 ≤ℤ d → p ≤ℤ (q *ℤ m)
 above_divided q m p n d h above high =
     let scaled = le_mul d h above in
     omega (arith, int_sums, mul_assoc q m d, ap (λ z. q *ℤ z) (mul_comm m d))
+
+-- 0 divided is 0
+pub nearest_of-zero : (d : ℤ) → pos 0 <ℤ d → nearest_of (pos 0) d ≡ pos 0
+nearest_of-zero d positive =
+    nearest_unique positive (nearest_of-is (pos 0) d positive)
+    record { half_below = omega (arith, ints); half_above = omega (arith, ints) }

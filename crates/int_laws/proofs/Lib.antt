@@ -4,3 +4,4 @@ pub mod SumLaws
 pub mod Powers
 pub mod FormLaws
 pub mod DivisionLemmas
+pub mod RootLemmas

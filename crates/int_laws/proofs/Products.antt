@@ -1,5 +1,5 @@
 -- Products of whole numbers against sums and against order.
-use Rattle.std.proofs.Common.{◌≡◌, ℕ, zero, suc, ◌+◌, ◌*◌, ◌⊎◌, inl, inr, ap, arith, ℤ, pos, negsuc, ◌+ℤ◌, ◌-ℤ◌, ◌*ℤ◌, neg_ℤ, ◌≤ℤ◌, ◌<ℤ◌}
+use Rattle.std.proofs.Common.{◌≡◌, ℕ, zero, suc, ◌+◌, ◌*◌, ◌^◌, ◌≤◌, ◌⊎◌, inl, inr, ap, arith, mul-le-mul, unsigned_abs, ℤ, pos, negsuc, ◌+ℤ◌, ◌-ℤ◌, ◌*ℤ◌, neg_ℤ, ◌≤ℤ◌, ◌<ℤ◌}
 use Rattle.std.proofs.lemmas.Int.{ints, by_lt_z}
 use Rattle.int_laws.proofs.Sums.{int_sums}
 use borrow.Author.Differences.{up, down, product_is, sum_is_lem, neg_is, same_in}
@@ -156,3 +156,8 @@ pub compared : (a b : ℤ) → (a <ℤ b) ⊎ ((a ≡ b) ⊎ (b <ℤ a))
 compared a b =
     by_lt_z a b (λ less. inl less)
     (λ rest. by_lt_z b a (λ greater. inr (inr greater)) (λ same. inr (inl (omega (arith, int_sums)))))
+
+-- the square of a number of 2^57 or more
+pub square_large : (x : ℤ) → 2 ^ 57 ≤ unsigned_abs x → pos (2 ^ 114) ≤ℤ (x *ℤ x)
+square_large (pos n) large = omega (arith, ints, mul-le-mul large large)
+square_large (negsuc n) large = omega (arith, ints, mul-le-mul large large)

@@ -5,5 +5,6 @@ pub mod ListsLemmas
 pub mod LaterLemmas
 pub mod LinkLemmas
 pub mod NamedLemmas
-pub mod RowLemmas
 pub mod SearchLemmas
+pub mod RowLemmas
+pub mod PatternLemmas

@@ -1,24 +1,35 @@
--- Rows by node and freedom: quotient and remainder by six.
-use Rattle.std.proofs.Common.{◌≡◌, ℕ, ◌*◌, ◌<◌, ◌≤◌, arith}
-use Rattle.lists.specs.Rows.{row_of, node_of, freedom_of}
+-- Rows by node and freedom, in the nodes' own numbers and in an order of them.
+use Rattle.std.proofs.Common.{◌≡◌, ℕ, ◌*◌, ◌/◌, ◌<◌, ◌∙◌, ap, arith, List, length, slice_index}
+use Rattle.lists.specs.Rows.{position_of, freedom_at}
+use Rattle.lists.specs.Order.{place_of, IsSpread, IsOrder}
+use Rattle.lists.proofs.PlaceLemmas.{place-found, place-at}
 
-pub node_of-row : (node freedom : ℕ) → freedom < 6 → node_of (row_of node freedom) ≡ node
-node_of-row node freedom h = omega arith
+-- ---- positions and rows
+pub position-below : (order : List ℕ) (row : ℕ) → IsOrder order → row < 6 * length order → position_of order row < 6 * length order
+position-below order row ordered inside = omega (arith, (place-found order (row / 6) ordered (omega arith)).0)
 
-pub freedom_of-row : (node freedom : ℕ) → freedom < 6 → freedom_of (row_of node freedom) ≡ freedom
-freedom_of-row node freedom h = omega arith
+pub row-below : (order : List ℕ) (j : ℕ) → IsOrder order → j < 6 * length order → freedom_at order j < 6 * length order
+row-below order j ordered inside = omega (arith, ordered.spread.in_range (j / 6) (omega arith))
 
-pub row_of-parts : (row : ℕ) → row_of (node_of row) (freedom_of row) ≡ row
-row_of-parts row = omega arith
+pub row-of_position : (order : List ℕ) (row : ℕ) → IsOrder order → row < 6 * length order → freedom_at order (position_of order row) ≡ row
+row-of_position order row ordered inside =
+    let found = place-found order (row / 6) ordered (omega arith) in
+    let place : position_of order row / 6 ≡ place_of (row / 6) order = omega arith in
+    let node = ap (slice_index order) place ∙ found.1 in
+    omega (arith, node)
 
-pub freedom_of-below : (row : ℕ) → freedom_of row < 6
-freedom_of-below row = omega arith
+pub position-of_row : (order : List ℕ) (j : ℕ) → IsOrder order → j < 6 * length order → position_of order (freedom_at order j) ≡ j
+position-of_row order j ordered inside =
+    let node : freedom_at order j / 6 ≡ slice_index order (j / 6) = omega arith in
+    let place = ap (λ (m : ℕ). place_of m order) node ∙ place-at order (j / 6) ordered (omega arith) in
+    omega (arith, place)
 
-pub node_of-below : (row nodes : ℕ) → row < 6 * nodes → node_of row < nodes
-node_of-below row nodes h = omega arith
+-- ---- the columns of a pattern
+pub column-below : (nodes : List ℕ) (n s : ℕ) → IsSpread nodes n → s < 6 * length nodes → freedom_at nodes s < 6 * n
+column-below nodes n s spread inside = omega (arith, spread.in_range (s / 6) (omega arith))
 
-pub row_of-below : (node freedom nodes : ℕ) → node < nodes → freedom < 6 → row_of node freedom < 6 * nodes
-row_of-below node freedom nodes h f = omega arith
-
-pub node_of-le : (row other : ℕ) → row ≤ other → node_of row ≤ node_of other
-node_of-le row other h = omega arith
+pub column-apart : (nodes : List ℕ) (n s t : ℕ) → IsSpread nodes n → s < 6 * length nodes → t < 6 * length nodes →
+    freedom_at nodes s ≡ freedom_at nodes t → s ≡ t
+column-apart nodes n s t spread ps pt e =
+    let place = spread.apart (s / 6) (t / 6) (omega arith) (omega arith) (omega arith) in
+    omega (arith, place)

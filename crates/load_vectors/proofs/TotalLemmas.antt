@@ -8,7 +8,8 @@ use Rattle.int_laws.proofs.Products.{moved_below, moved_above}
 use Rattle.int_laws.specs.Sums.{sum_below}
 use Rattle.flex_interval.specs.Ends.{Ends}
 use Rattle.flex_interval.specs.Fraction.{Within, plus, scaled, whole}
-use Rattle.flex_interval.specs.Operations.{and_then, add_of}
+use Rattle.flex_interval.specs.Operations.{add_of}
+use Rattle.lists.specs.Results.{and_then}
 use Rattle.member_set.specs.Members.{nothing, load_of}
 use Rattle.member_set.specs.Interval.{Outcome, limited_force}
 use Rattle.model_types.specs.Lists.{Lists}

@@ -4,7 +4,8 @@ use Rattle.std.specs.List.{slice_index_or}
 use Rattle.int_laws.specs.Sums.{sum_below}
 use Rattle.flex_interval.specs.Ends.{Ends}
 use Rattle.flex_interval.specs.Fraction.{Fraction, Within}
-use Rattle.flex_interval.specs.Operations.{and_then, point_of, add_of, ratio_of}
+use Rattle.flex_interval.specs.Operations.{point_of, add_of, ratio_of}
+use Rattle.lists.specs.Results.{and_then}
 use Rattle.member_set.specs.Members.{nothing, load_of}
 use Rattle.member_set.specs.Interval.{Outcome, in_turn, limited_force}
 use Rattle.model_types.specs.Lists.{Lists}

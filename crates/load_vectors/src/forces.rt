@@ -1,6 +1,7 @@
 ghost use Rattle.std.specs.Prelude.{◌≡◌, ◌<◌, ◌≤◌, ◌+◌, ◌^◌, ℕ, ℤ, ◌+ℤ◌, length, IfOk, OnOk, Ok, Err, if◌then◌else◌};
 ghost use Rattle.flex_interval.specs.Fraction.{Within};
-ghost use Rattle.flex_interval.specs.Operations.{and_then, add_of};
+ghost use Rattle.flex_interval.specs.Operations.{add_of};
+ghost use Rattle.lists.specs.Results.{and_then};
 ghost use Rattle.member_set.specs.Interval.{limited_force};
 ghost use Rattle.member_set.specs.Members.{load_of};
 ghost use Rattle.model_types.specs.Ranges.{IsIn, load, ForceInForm};

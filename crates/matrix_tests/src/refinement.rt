@@ -1,6 +1,6 @@
 //! One node without members, whose residual is its load whatever its displacements: each turn adds the same.
 ghost use Rattle.std.specs.Prelude.{ℕ, pos, ◌<◌, ◌<ℤ◌};
-ghost use Rattle.factor_data.specs.Columns.{entry};
+ghost use Rattle.factor_data.specs.Columns.{factor_entry};
 
 use crate::makers::{chain_factor, one_node};
 use factor_data::Factor;
@@ -23,7 +23,7 @@ const LOADS: [Iv; 6] = [
 
 // The diagonal of a node's factor is above 0.
 fn check_diagonal(rt: &impl Abort, factor: &Factor)
-    ensures { (j : ℕ) → j < 6 → pos 0 <ℤ entry factor.now j j }
+    ensures { (j : ℕ) → j < 6 → pos 0 <ℤ factor_entry factor.now j j }
 {
     for j in 0..6 {
         assert!(rt; factor.get(j, j) > 0);

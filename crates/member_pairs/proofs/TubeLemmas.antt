@@ -5,7 +5,7 @@ use Rattle.std.proofs.lemmas.Int.{ints}
 use Rattle.int_laws.proofs.Sums.{int_sums}
 use Rattle.int_laws.proofs.Products.{square_le, square_nonnegative, le_mul, mul_comm, mul_nonnegative}
 use Rattle.model_types.specs.declared.records.Section.{Section}
-use Rattle.section_data.specs.Tube.{IsTube, square_difference, square_sum, inside_diameter}
+use Rattle.section_data.specs.Tube.{IsTube, difference_of_squares, square_sum, inside_diameter}
 use Rattle.member_pairs.specs.Tubes.{IsRoundTube}
 use Rattle.member_pairs.specs.declared.tube.Tube.{Tube}
 
@@ -18,10 +18,10 @@ inside_less s t = omega (arith, ints, t.form.t.least)
 outside_square : (s : Section) → IsTube s → (s.d *ℤ s.d) ≤ℤ pos 4000000000000
 outside_square s t = omega (arith, int_sums, square_le s.d (pos 2000000) (omega (arith, int_sums, t.form.d.least)) t.form.d.most)
 
-pub difference_low : (s : Section) → IsTube s → pos 0 ≤ℤ square_difference s false
+pub difference_low : (s : Section) → IsTube s → pos 0 ≤ℤ difference_of_squares s false
 difference_low s t = omega (arith, int_sums, square_le (inside_diameter s false) s.d (inside_positive s t) (inside_less s t))
 
-pub difference_high : (s : Section) → IsTube s → square_difference s false ≤ℤ pos 4000000000000
+pub difference_high : (s : Section) → IsTube s → difference_of_squares s false ≤ℤ pos 4000000000000
 difference_high s t = omega (arith, int_sums, square_nonnegative (inside_diameter s false), outside_square s t)
 
 pub sum_low : (s : Section) → pos 0 ≤ℤ square_sum s false

@@ -3,7 +3,8 @@ use Rattle.std.specs.Prelude.{◌^◌, List, ℤ, pos, ◌*ℤ◌, Result, Ok, I
 use Rattle.flex_interval.specs.declared.fault.IvFault.{IvFault}
 use Rattle.flex_interval.specs.Ends.{Ends}
 use Rattle.flex_interval.specs.Fraction.{Fraction, Within, whole, scaled, over}
-use Rattle.flex_interval.specs.Operations.{and_then, point_of, ratio_of, div_of, sqrt_of}
+use Rattle.flex_interval.specs.Operations.{point_of, ratio_of, div_of, sqrt_of}
+use Rattle.lists.specs.Results.{and_then}
 use Rattle.member_pairs.specs.Axes.{Axis}
 use Rattle.member_pairs.specs.Span.{Span, square_of}
 use Rattle.member_pairs.specs.Vectors.{vector_of}

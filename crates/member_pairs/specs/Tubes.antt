@@ -3,12 +3,12 @@ use Rattle.std.specs.Prelude.{◌^◌, ◌*◌, false, ℤ, pos, ◌+ℤ◌, ◌
 use Rattle.model_types.specs.declared.records.Section.{Section}
 use Rattle.model_types.specs.declared.records.Material.{Material}
 use Rattle.model_types.specs.Ranges.{IsIn, modulus, poisson_ratio}
-use Rattle.section_data.specs.Tube.{square_difference, square_sum}
+use Rattle.section_data.specs.Tube.{difference_of_squares, square_sum}
 use Rattle.member_pairs.specs.declared.tube.Tube.{Tube}
 
 -- the tube of the full wall
 abbrev pub tube_of : Section → Material → Tube
-tube_of s m = record { modulus = m.e; poisson_ratio = m.nu; square_difference = square_difference s false; square_sum = square_sum s false }
+tube_of s m = record { modulus = m.e; poisson_ratio = m.nu; square_difference = difference_of_squares s false; square_sum = square_sum s false }
 
 -- a tube of a section and material in range
 pub record IsRoundTube (t : Tube) : Type 0 where

@@ -3,7 +3,8 @@ use Rattle.std.specs.Prelude.{List, [], ◌∷◌, slice_index_or, pos, ◌-ℤ�
 use Rattle.flex_interval.specs.Ends.{Ends}
 use Rattle.flex_interval.specs.declared.fault.IvFault.{IvFault}
 use Rattle.flex_interval.specs.Fraction.{Fraction, Within, whole, negated, times, plus, minus}
-use Rattle.flex_interval.specs.Operations.{and_then, neg_of, add_of, sub_of, mul_of}
+use Rattle.flex_interval.specs.Operations.{neg_of, add_of, sub_of, mul_of}
+use Rattle.lists.specs.Results.{and_then}
 use Rattle.member_set.specs.Members.{nothing}
 use Rattle.model_types.specs.declared.records.Node.{Node}
 use Rattle.model_types.specs.Ranges.{IsIn, of_size}

@@ -2,7 +2,8 @@
 use Rattle.std.proofs.Common.{◌≡◌, ◌≢◌, ◌*ℤ◌, ℕ, ◌/◌, ◌<◌, ◌⊎◌, inl, inr, List, length, get_or, slice_index, Ok, Err, ◌+◌, ◌*◌, refl, subst, ap, sym, ◌∙◌, arith, ℤ, pos}
 use Rattle.std.proofs.lemmas.Grind.{get_or_default_zero}
 use Rattle.std.proofs.lemmas.List.{get_or_read_under}
-use Rattle.flex_interval.specs.Operations.{and_then, sub_of}
+use Rattle.flex_interval.specs.Operations.{sub_of}
+use Rattle.lists.specs.Results.{and_then}
 use Rattle.std.specs.Prelude.{IsErr, Contains, AllPairs}
 use Rattle.std.proofs.lemmas.Bool.Decides.{nat_tests}
 use Rattle.int_laws.specs.Sums.{sum_below}
@@ -11,13 +12,13 @@ use Rattle.int_laws.proofs.SumLaws.{sum_below-reindexed}
 use Rattle.member_set.specs.declared.members.Member.{Member}
 use Rattle.member_set.specs.declared.members.Built.{Built}
 use Rattle.member_set.specs.declared.members.Law.{Law}
-use Rattle.member_set.specs.Members.{load_of, force_of, row_count, IsBuilt, member_of, members_at, node_count, no_member, nothing, shape_at, system}
+use Rattle.member_set.specs.Members.{load_of, force_of, row_count, IsBuilt, member_of, members_at, built_nodes, no_member, nothing, shape_at, system}
 use Rattle.member_set.specs.Interval.{Outcome, in_turn, pull_of, residual_term, residual_with, residual_of, forces_of, AreForces}
 use Rattle.member_set.proofs.Turns.{in_turn-next, in_turn-fault, in_turn-same, in_turn-some_fault}
 use Rattle.flex_interval.specs.Ends.{Ends}
 use Rattle.flex_interval.specs.declared.fault.IvFault.{IvFault}
 
-pub numbers_in_range : (b : Built) → IsBuilt b → (node t : ℕ) → node < node_count b → t < length (members_at b node) →
+pub numbers_in_range : (b : Built) → IsBuilt b → (node t : ℕ) → node < built_nodes b → t < length (members_at b node) →
     slice_index (members_at b node) t < length b.members
 numbers_in_range b built node t node_inside inside =
     ((built.touching node (slice_index (members_at b node) t) node_inside).0 (t, inside, get_or_default_zero (members_at b node) t _ inside)).0
@@ -78,7 +79,7 @@ rising_apart xs rising s t s_inside t_inside same =
       ]
     ]
 
-pub resistance_by_node : (b : Built) → IsBuilt b → (row : ℕ) (weight force : ℕ → ℤ) → row / 6 < node_count b →
+pub resistance_by_node : (b : Built) → IsBuilt b → (row : ℕ) (weight force : ℕ → ℤ) → row / 6 < built_nodes b →
     ((k : ℕ) → k < length b.members → shape_at (member_of b k) row ≡ nothing → weight k ≡ pos 0) →
     sum_below (length (members_at b (row / 6))) (λ t. weight (slice_index (members_at b (row / 6)) t) *ℤ force (slice_index (members_at b (row / 6)) t))
     ≡ sum_below (length b.members) (λ k. weight k *ℤ force k)
@@ -118,7 +119,7 @@ unfolding residual_with
 residual-without_force b built laws u k fault inside none loads =
     let node = (member_of b k).n1 in
     let row = 6 * node in
-    let node_inside : node < node_count b = built.first_node k inside in
+    let node_inside : node < built_nodes b = built.first_node k inside in
     let node_is : row / 6 ≡ node = omega arith in
     let place = placed (members_at b (row / 6)) k (subst (λ (n : ℕ). Contains (members_at b n) k) (sym node_is) ((built.touching node k node_inside).1 (inside, inl refl))) in
     let here : residual_term b (forces_of b laws u) row place.0 ≡ Err fault = rw (place.2, none) in

@@ -1,7 +1,7 @@
 -- Sums of intervals in turn.
 use Rattle.std.proofs.Common.{◌≡◌, ℕ, zero, suc, ◌+◌, ◌<◌, ◌≤◌, ◌⊎◌, inl, inr, refl, subst, sym, add-one, arith, Ok, Err, IsErr}
 use Rattle.flex_interval.specs.Ends.{Ends}
-use Rattle.flex_interval.specs.Operations.{and_then}
+use Rattle.lists.specs.Results.{and_then}
 use Rattle.flex_interval.specs.declared.fault.IvFault.{IvFault}
 use Rattle.member_set.specs.Interval.{Outcome, in_turn}
 

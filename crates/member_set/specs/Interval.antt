@@ -1,7 +1,8 @@
 -- The interval that each call answers, or its fault, rounding by rounding.
 use Rattle.std.specs.Prelude.{◌≡◌, ◌<◌, ◌≤◌, ℕ, zero, suc, ◌+◌, ◌-◌, ◌*◌, ◌/◌, ◌^◌, ◌&&◌, ◌==◌, nat_lt, List, length, slice_index, slice_index_or, ℤ, pos, unsigned_abs, Result, Ok, Err, if◌then◌else◌}
 use Rattle.flex_interval.specs.Ends.{Ends}
-use Rattle.flex_interval.specs.Operations.{and_then, point_of, add_of, sub_of, mul_of}
+use Rattle.flex_interval.specs.Operations.{point_of, add_of, sub_of, mul_of}
+use Rattle.lists.specs.Results.{and_then}
 use Rattle.flex_interval.specs.declared.fault.IvFault.{IvFault}
 use Rattle.flex_interval.specs.declared.fault.IvFault.TheVariants.{Wide}
 use Rattle.member_set.specs.declared.members.Member.{Member}
@@ -29,12 +30,12 @@ abbrev pub place_count : Member → ℕ
 place_count m = if m.n1 == m.n2 then 6 else 12
 
 -- the row of a shape number's place
-abbrev pub row_of : Member → ℕ → ℕ
-row_of m place = if nat_lt place 6 then 6 * m.n1 + place else 6 * m.n2 + (place - 6)
+abbrev pub touched_row : Member → ℕ → ℕ
+touched_row m place = if nat_lt place 6 then 6 * m.n1 + place else 6 * m.n2 + (place - 6)
 
 -- one term of w.u
 abbrev pub reach_term : Member → List ℤ → ℕ → Outcome
-reach_term m u place = mul_of (slice_index_or m.w place nothing) (point_of (slice_index_or u (row_of m place) (pos 0))) 56
+reach_term m u place = mul_of (slice_index_or m.w place nothing) (point_of (slice_index_or u (touched_row m place) (pos 0))) 56
 
 -- w.u
 unfoldable pub reach_of : Member → List ℤ → Outcome

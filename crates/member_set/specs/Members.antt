@@ -44,11 +44,11 @@ load_of loads row = slice_index_or loads row nothing
 abbrev pub force_of : List Ends → ℕ → Ends
 force_of forces k = slice_index_or forces k nothing
 
-abbrev pub node_count : Built → ℕ
-node_count b = length b.at
+abbrev pub built_nodes : Built → ℕ
+built_nodes b = length b.at
 
 abbrev pub row_count : Built → ℕ
-row_count b = 6 * node_count b
+row_count b = 6 * built_nodes b
 
 -- the numbers of the members that touch a node
 abbrev pub members_at : Built → ℕ → List ℕ
@@ -58,10 +58,10 @@ members_at b node = slice_index_or b.at node []
 -- that touch it, rising
 pub record IsBuilt (b : Built) : Type 0 where
   pub numbered : row_count b ≤ 2 ^ 32
-  pub first_node : (k : ℕ) → k < length b.members → (member_of b k).n1 < node_count b
-  pub second_node : (k : ℕ) → k < length b.members → (member_of b k).n2 < node_count b
+  pub first_node : (k : ℕ) → k < length b.members → (member_of b k).n1 < built_nodes b
+  pub second_node : (k : ℕ) → k < length b.members → (member_of b k).n2 < built_nodes b
   pub rising : (node : ℕ) → AllPairs (λ x y. x < y) (members_at b node)
-  pub touching : (node k : ℕ) → node < node_count b →
+  pub touching : (node k : ℕ) → node < built_nodes b →
       Contains (members_at b node) k ↔ ((k < length b.members) × Touches (member_of b k) node)
 
 -- a stiffness is from 1 to below 2^61, in units of 2^-20 N/m

@@ -2,7 +2,7 @@ ghost use Rattle.std.specs.Prelude.{◌≡◌, ℕ, ◌+◌, ◌*◌, ◌<◌, �
 ghost use Rattle.flex_interval.specs.Fraction.{Within};
 ghost use Rattle.member_set.specs.Members.{start_of, IsModerate, shape_at, nothing};
 ghost use Rattle.member_set.specs.Realisation.{ExactMember, IsLawWithin, IsMemberWithin, stretch, displaced, exact_reach, exact_force, reach_fraction, force_fraction, fraction};
-ghost use Rattle.member_set.specs.Interval.{place_count, row_of, reach_term, reach_of, law_force_of};
+ghost use Rattle.member_set.specs.Interval.{place_count, touched_row, reach_term, reach_of, law_force_of};
 
 use crate::members::{Law, Member};
 use flex_interval::{Iv, IvFault};
@@ -32,9 +32,9 @@ fn place_count(m: &Member) -> usize
 }
 
 /// The row of a shape number's place.
-fn row_of(m: &Member, place: usize) -> usize
+fn touched_row(m: &Member, place: usize) -> usize
     requires { place < 12 }
-    ensures { result ≡ row_of m.now place }
+    ensures { result ≡ touched_row m.now place }
 {
     if place < 6 {
         6 * m.n1 as usize + place
@@ -51,9 +51,9 @@ fn reach_term(m: &Member, u: &[i128], place: usize) -> Result<Iv, IvFault>
     requires moderate { IsModerate u.now }
     ensures value { result ≡ reach_term m.now u.now place }
     ensures within { IfOk result (λ e. (q shape : ℤ) → pos 0 <ℤ q → Within (slice_index_or m.now.w place nothing) (fraction shape q) →
-        Within e (reach_fraction q (shape *ℤ displaced q u.now (row_of m.now place)))) }
+        Within e (reach_fraction q (shape *ℤ displaced q u.now (touched_row m.now place)))) }
 {
-    flex_interval::mul(m.w[place], flex_interval::point(u[row_of(m, place)]), 56)
+    flex_interval::mul(m.w[place], flex_interval::point(u[touched_row(m, place)]), 56)
 }
 
 /// The force of a member with a reach, in units of 2^-40 N or N m.

@@ -2,7 +2,8 @@ ghost use Rattle.std.specs.Prelude.{◌≡◌, ℕ, ◌+◌, ◌*◌, ◌/◌, �
 ghost use Rattle.int_laws.specs.Sums.{sum_below};
 ghost use Rattle.flex_interval.specs.Ends.{Ends};
 ghost use Rattle.flex_interval.specs.Fraction.{Within};
-ghost use Rattle.flex_interval.specs.Operations.{and_then, sub_of};
+ghost use Rattle.flex_interval.specs.Operations.{sub_of};
+ghost use Rattle.lists.specs.Results.{and_then};
 ghost use Rattle.member_set.specs.declared.members.Law.{Law};
 ghost use Rattle.member_set.specs.Members.{IsBuilt, IsSystem, IsModerate, nothing, shape_at, member_of, row_count, members_at, force_of, system};
 ghost use Rattle.member_set.specs.Realisation.{ExactMember, IsMemberWithin, Realisation, IsRealisation, HoldForces, displaced, exact_reach, exact_force, force_in, force_fraction, pull_fraction, exact_residual, fraction};

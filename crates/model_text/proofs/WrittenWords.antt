@@ -18,8 +18,8 @@ use Rattle.text_words.specs.Numbers.{number_of}
 use Rattle.text_words.proofs.NumberLemmas.{own, number_of-IsNumber}
 use Rattle.model_types.specs.declared.records.Record.{Record}
 use Rattle.model_types.specs.Lists.{Lists, names_in}
-use Rattle.model_types.specs.Ranges.{Range, IsIn, IsStiffness, IsDirection, stiffness, direction_part, from_to}
-use Rattle.model_text.specs.Fields.{◌>>=◌, name_at, is_in, in_range, number_in, stiffness_at, is_default, flag_at, is_zero, direction_at}
+use Rattle.model_types.specs.Ranges.{Range, IsIn, IsStiffness, IsDirection, stiffness_range, direction_part, from_to}
+use Rattle.model_text.specs.Fields.{◌>>=◌, name_at, is_in, in_range, number_in, stiffness_in, is_default, flag_at, is_zero, direction_at}
 use Rattle.model_text.specs.Rows.{Field, own_name, name_in, within, stiffness_or_default, flag, direction, Form, first_word, row, Value, Values, width, row_width, made, number_named, read_field, read_row, record_in, name_of, stiffness_word, flag_word, field_words, row_words, form_words}
 use Rattle.model_text.specs.Words.{word}
 use Rattle.model_text.specs.declared.fields.Direction.{Direction}
@@ -110,23 +110,23 @@ module _ (range : Range) (n : ℤ) (short : is_short range ≡ true) (is : IsIn 
 -- a stiffness
 pub plain_stiffness : (k : Option ℤ) → IsStiffness k → IsPlain (stiffness_word k)
 plain_stiffness None is = record { passes = refl }
-plain_stiffness (Some k) is = plain_number_in stiffness k refl is
+plain_stiffness (Some k) is = plain_number_in stiffness_range k refl is
 
 -- a number isn't the default
-default_is_none : (k : ℤ) → number_in stiffness (codes "-") ≡ Ok k → ⊥
+default_is_none : (k : ℤ) → number_in stiffness_range (codes "-") ≡ Ok k → ⊥
 unfolding number_in number_of
 default_is_none k e = absurd (cc)
 
-no_default : (k : ℤ) → IsIn stiffness k → is_default (signed_decimal k) ≡ false
+no_default : (k : ℤ) → IsIn stiffness_range k → is_default (signed_decimal k) ≡ false
 no_default k is = false_from_ne_true (is_default (signed_decimal k)) (λ same.
     let word : signed_decimal k ≡ codes "-" = (bytes_eq-Decides (signed_decimal k) (codes "-")).0 same in
-    let read = reads_number stiffness k refl is in
-    default_is_none k (sym (ap (number_in stiffness) word) ∙ read))
+    let read = reads_number stiffness_range k refl is in
+    default_is_none k (sym (ap (number_in stiffness_range) word) ∙ read))
 
-pub reads_stiffness : (k : Option ℤ) → IsStiffness k → stiffness_at (stiffness_word k) ≡ Ok k
-unfolding stiffness_at
+pub reads_stiffness : (k : Option ℤ) → IsStiffness k → stiffness_in (stiffness_word k) ≡ Ok k
+unfolding stiffness_in
 reads_stiffness None is = refl
-reads_stiffness (Some k) is = cond-false (is_default (signed_decimal k)) _ _ (no_default k is) ∙ ap (λ r. r >>= λ n. Ok (Some n)) (reads_number stiffness k refl is)
+reads_stiffness (Some k) is = cond-false (is_default (signed_decimal k)) _ _ (no_default k is) ∙ ap (λ r. r >>= λ n. Ok (Some n)) (reads_number stiffness_range k refl is)
 
 -- 0 or 1
 pub plain_flag : (b : Bool) → IsPlain (flag_word b)
@@ -214,7 +214,7 @@ module _ (m : Lists) where
   reads_field (name_in space) n done rest k at short is =
       ap (number_named m space) (word_at done (name_of m space n) rest k at) ∙ after_step _ (name_of m space n) _ _ is.reads (ap Ok is.found)
   reads_field (within range) v done rest k at short is = ap (number_in range) (word_at done (signed_decimal v) rest k at) ∙ reads_number range v short is
-  reads_field stiffness_or_default v done rest k at short is = ap stiffness_at (word_at done (stiffness_word v) rest k at) ∙ reads_stiffness v is
+  reads_field stiffness_or_default v done rest k at short is = ap stiffness_in (word_at done (stiffness_word v) rest k at) ∙ reads_stiffness v is
   reads_field flag v done rest k at short is = ap flag_at (word_at done (flag_word v) rest k at) ∙ reads_flag v
   reads_field direction v done rest k at short is = reads_direction done rest v k at is
 

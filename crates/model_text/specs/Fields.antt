@@ -3,7 +3,7 @@ use Rattle.std.specs.Prelude.{ℕ, ◌+◌, ◌&&◌, Bool, ℤ, pos, int_le, Li
 use Rattle.std.specs.Ordering.{int_eq}
 use Rattle.std.specs.Str.{bytes_eq}
 use Rattle.text_words.specs.Names.{is_name}
-use Rattle.model_types.specs.Ranges.{Range, from_to, direction_part, stiffness}
+use Rattle.model_types.specs.Ranges.{Range, from_to, direction_part, stiffness_range}
 use Rattle.text_words.specs.Numbers.{number_of}
 use Rattle.text_words.specs.declared.numbers.NumberFault.{NumberFault}
 use Rattle.text_words.specs.declared.numbers.NumberFault.TheVariants.{NotANumber, TooLong}
@@ -41,8 +41,8 @@ abbrev pub is_default : List ℕ → Bool
 is_default w = bytes_eq w (codes "-")
 
 -- a stiffness, or the default
-unfoldable pub stiffness_at : List ℕ → Result (Option ℤ) ℕ
-stiffness_at w = if is_default w then Ok None else (number_in stiffness w >>= λ k. Ok (Some k))
+unfoldable pub stiffness_in : List ℕ → Result (Option ℤ) ℕ
+stiffness_in w = if is_default w then Ok None else (number_in stiffness_range w >>= λ k. Ok (Some k))
 
 -- 0 or 1
 unfoldable pub flag_at : List ℕ → Result Bool ℕ

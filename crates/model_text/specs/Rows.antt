@@ -9,10 +9,10 @@ use Rattle.model_types.specs.declared.records.RestraintKind.{RestraintKind}
 use Rattle.model_types.specs.declared.records.RestraintKind.TheVariants.{Anchor, Linear, Twist}
 use Rattle.model_types.specs.declared.records.Record.{Record}
 use Rattle.model_types.specs.declared.records.Record.TheVariants as record_of
-use Rattle.model_types.specs.Lists.{Lists, names_in, number_of}
+use Rattle.model_types.specs.Lists.{Lists, names_in, record_number}
 use Rattle.model_types.specs.Ranges.{Range, modulus, poisson_ratio, expansion, density, diameter, wall, wall_allowance, extra_weight, coordinate, acceleration, temperature_change, pressure, load}
 use Rattle.model_text.specs.declared.fields.Direction.{Direction}
-use Rattle.model_text.specs.Fields.{◌>>=◌, refuse_if, name_at, number_in, stiffness_at, flag_at, direction_at}
+use Rattle.model_text.specs.Fields.{◌>>=◌, refuse_if, name_at, number_in, stiffness_in, flag_at, direction_at}
 use Rattle.model_text.specs.Words.{word}
 
 -- what a field of a row holds: the record's own name, the name of another record, a number in a range, a stiffness or `-`, 0 or 1, or
@@ -105,7 +105,7 @@ made a_force (case, (node, (fx, (fy, (fz, (mx, (my, (mz, _)))))))) =
 
 -- the number of the record of that name, or 4294967295, which is no record's
 abbrev pub number_or_none : Lists → Space → List ℕ → ℕ
-number_or_none m space name = unwrap_or (number_of m space name) 4294967295
+number_or_none m space name = unwrap_or (record_number m space name) 4294967295
 
 -- the number of the record that a word names: 7 where the word isn't a name
 abbrev pub number_named : Lists → Space → List ℕ → Result ℕ ℕ
@@ -116,7 +116,7 @@ abbrev pub read_field : Lists → (f : Field) → List (List ℕ) → ℕ → Re
 read_field m own_name ws k = name_at (word ws k)
 read_field m (name_in space) ws k = number_named m space (word ws k)
 read_field m (within range) ws k = number_in range (word ws k)
-read_field m stiffness_or_default ws k = stiffness_at (word ws k)
+read_field m stiffness_or_default ws k = stiffness_in (word ws k)
 read_field m flag ws k = flag_at (word ws k)
 read_field m direction ws k = direction_at ws k
 

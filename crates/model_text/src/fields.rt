@@ -48,9 +48,9 @@ fn is_in(n: i64, least: i64, most: i64) -> bool
 }
 
 /// A stiffness, or `None` for the default.
-#[tactic(auto, unfolding(crate::specs::Fields::stiffness_at))]
-pub(crate) fn stiffness_at(word: &[u8]) -> Result<Option<i64>, u8>
-    ensures value { result ≡ field.stiffness_at word.now }
+#[tactic(auto, unfolding(crate::specs::Fields::stiffness_in))]
+pub(crate) fn stiffness_in(word: &[u8]) -> Result<Option<i64>, u8>
+    ensures value { result ≡ field.stiffness_in word.now }
     ensures range { IfOk result IsStiffness }
 {
     if word == b"-".as_slice() {

@@ -6,7 +6,7 @@ ghost use Rattle.model_text.specs.Records as record_of;
 ghost use Rattle.model_text.specs.Rows as row_of;
 ghost use Rattle.model_text.specs.Words.{words};
 
-use crate::fields::{direction_of, flag_at, name_at, number_in, refuse_if, stiffness_at};
+use crate::fields::{direction_of, flag_at, name_at, number_in, refuse_if, stiffness_in};
 use crate::words::{count, word};
 use model_types::{
     Case, CaseId, Draft, Element, Force, Material, MaterialId, Node, NodeId, Record, Restraint,
@@ -158,8 +158,8 @@ fn anchor(draft: &Draft, line: &[u8]) -> Result<Record, u8>
     refuse_if(count(line) != 5, 5)?;
     let name = name_at(word(line, 1))?;
     let node = NodeId(number_named(draft, Space::Node, word(line, 2))?);
-    let kt = stiffness_at(word(line, 3))?;
-    let kr = stiffness_at(word(line, 4))?;
+    let kt = stiffness_in(word(line, 3))?;
+    let kr = stiffness_in(word(line, 4))?;
     let kind = RestraintKind::Anchor { kt, kr };
     Ok(Record::Restraint(Restraint { name, node, kind }))
 }
@@ -173,7 +173,7 @@ fn linear(draft: &Draft, line: &[u8]) -> Result<Record, u8>
     let name = name_at(word(line, 1))?;
     let node = NodeId(number_named(draft, Space::Node, word(line, 2))?);
     let d = direction_of(line)?;
-    let k = stiffness_at(word(line, 6))?;
+    let k = stiffness_in(word(line, 6))?;
     let kind = RestraintKind::Linear {
         dx: d.x,
         dy: d.y,
@@ -192,7 +192,7 @@ fn twist(draft: &Draft, line: &[u8]) -> Result<Record, u8>
     let name = name_at(word(line, 1))?;
     let node = NodeId(number_named(draft, Space::Node, word(line, 2))?);
     let d = direction_of(line)?;
-    let k = stiffness_at(word(line, 6))?;
+    let k = stiffness_in(word(line, 6))?;
     let kind = RestraintKind::Twist {
         dx: d.x,
         dy: d.y,

@@ -62,5 +62,5 @@ names_in m space_of.Case = map (λ r. r.name) m.cases
 names_in m space_of.Check = map (λ r. r.name) m.checks
 
 -- the number of the record of that name in that space
-abbrev pub number_of : Lists → Space → List ℕ → Option ℕ
-number_of m space name = position (pointwise nat_eq name) (names_in m space)
+abbrev pub record_number : Lists → Space → List ℕ → Option ℕ
+record_number m space name = position (pointwise nat_eq name) (names_in m space)

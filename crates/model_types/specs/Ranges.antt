@@ -60,8 +60,8 @@ abbrev pub coordinate : Range
 coordinate = of_size 10000000000
 
 -- stiffness of a restraint, in N/m or N m/rad
-abbrev pub stiffness : Range
-stiffness = from_to 1 2000000000000
+abbrev pub stiffness_range : Range
+stiffness_range = from_to 1 2000000000000
 
 -- parts of a direction
 abbrev pub direction_part : Range
@@ -116,7 +116,7 @@ pub record IsDirection (x y z : ℤ) : Type 0 where
 
 -- a stiffness, or the default
 abbrev pub IsStiffness : Option ℤ → Type 0
-IsStiffness k = IfSome k (IsIn stiffness)
+IsStiffness k = IfSome k (IsIn stiffness_range)
 
 abbrev pub KindInForm : RestraintKind → Type 0
 KindInForm (Anchor kt kr) = IsStiffness kt × IsStiffness kr

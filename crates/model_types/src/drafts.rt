@@ -1,6 +1,6 @@
 //! A model in the making: records come one by one, and each is judged against those before it.
 ghost use Rattle.std.specs.Prelude.{◌≡◌, ◌≢◌, ◌↔◌, ℕ, length, [], Some, None, Err, IsNone, IfSome, OnOk, OnErr, IsErr, IfOk, IfErr, Contains, slice_get};
-ghost use Rattle.model_types.specs.Lists.{names_in, number_of, no_records, added};
+ghost use Rattle.model_types.specs.Lists.{names_in, record_number, no_records, added};
 ghost use Rattle.model_types.specs.Ranges.{InForm};
 ghost use Rattle.model_types.specs.Rules.{KeepsRules, MayBeNext, IsModel};
 ghost use Rattle.model_types.specs.Refusals as refused;
@@ -44,7 +44,7 @@ impl Draft {
 
     /// The number of the record of that name in that space, or `None` where the space has no such name.
     pub fn find(&self, space: Space, name: &Name) -> Option<u32>
-        ensures number { result ≡ number_of self.now space name.now }
+        ensures number { result ≡ record_number self.now space name.now }
         ensures absent { IsNone result ↔ ¬ (Contains (names_in self.now space) name.now) }
         ensures there { IfSome result (λ number. slice_get (names_in self.now space) number ≡ Some name.now) }
     {

@@ -1,6 +1,6 @@
 //! The records of each kind, one list a kind, and the tests of one more record.
 ghost use Rattle.std.specs.Prelude.{◌≡◌, ◌*◌, ◌≤◌, ◌^◌, pos, ◌*ℤ◌, int_le, length, [], ◌∷◌, false, OnOk, OnErr, IfOk, All};
-ghost use Rattle.model_types.specs.Lists.{names_in, number_of, no_records, added};
+ghost use Rattle.model_types.specs.Lists.{names_in, record_number, no_records, added};
 ghost use Rattle.model_types.specs.Kinds.{kind_of, count, most, refs};
 ghost use Rattle.model_types.specs.Ranges.{InForm, NodeInForm, SectionInForm, IsIn, coordinate, wall};
 ghost use Rattle.model_types.specs.Rules.{IsModel, square_distance as square_between, square_difference as square_from};
@@ -117,7 +117,7 @@ impl RecordLists {
 
     /// The number of the record of that name in that space.
     pub(crate) fn look_up(&self, space: Space, name: &Name) -> Option<u32>
-        ensures { result ≡ number_of self.now space name.now }
+        ensures { result ≡ record_number self.now space name.now }
     {
         match space {
             Space::Material => self.materials.find(name),

@@ -2,7 +2,8 @@
 use Rattle.std.specs.Prelude.{◌*◌, ◌^◌, Bool, ◌&&◌, List, pos, Result, Ok}
 use Rattle.flex_interval.specs.declared.fault.IvFault.{IvFault}
 use Rattle.flex_interval.specs.Ends.{Ends}
-use Rattle.flex_interval.specs.Operations.{and_then, neg_of, sub_of, ratio_of, div_of}
+use Rattle.flex_interval.specs.Operations.{neg_of, sub_of, ratio_of, div_of}
+use Rattle.lists.specs.Results.{and_then}
 use Rattle.angle_table.specs.Pi.{pi_ends}
 use Rattle.member_pairs.specs.Axes.{x_axis, y_axis, z_axis}
 use Rattle.member_pairs.specs.Lengths.{tangent_of, half_of}

@@ -2,7 +2,8 @@
 use Rattle.std.specs.Prelude.{◌^◌, ◌*◌, Bool, false, ℤ, pos, ◌+ℤ◌, ◌-ℤ◌, ◌*ℤ◌, ◌≤ℤ◌, ◌<ℤ◌, Result, if◌then◌else◌}
 use Rattle.flex_interval.specs.Ends.{Ends}
 use Rattle.flex_interval.specs.Fraction.{Fraction, Within, whole, scaled, plus}
-use Rattle.flex_interval.specs.Operations.{and_then, point_of, ratio_of, add_of}
+use Rattle.flex_interval.specs.Operations.{point_of, ratio_of, add_of}
+use Rattle.lists.specs.Results.{and_then}
 use Rattle.flex_interval.specs.declared.fault.IvFault.{IvFault}
 use Rattle.model_types.specs.declared.records.Section.{Section}
 use Rattle.model_types.specs.declared.records.Material.{Material}
@@ -30,8 +31,8 @@ pub record IsHollow (outside inside : ℤ) : Type 0 where
   pub outside_high : outside ≤ℤ pos 2000000
 
 -- D^2 - d^2
-abbrev pub square_difference : Section → Bool → ℤ
-square_difference s reduced = (s.d *ℤ s.d) -ℤ (inside_diameter s reduced *ℤ inside_diameter s reduced)
+abbrev pub difference_of_squares : Section → Bool → ℤ
+difference_of_squares s reduced = (s.d *ℤ s.d) -ℤ (inside_diameter s reduced *ℤ inside_diameter s reduced)
 
 -- D^2 + d^2
 abbrev pub square_sum : Section → Bool → ℤ
@@ -57,12 +58,12 @@ unfoldable pub exact_weight_of : Fraction → Section → Material → Fraction
 exact_weight_of area s m = plus (scaled area (weight_factor m) (pos (10 ^ 17))) (scaled (whole s.extra) (pos (2 ^ 40)) (pos 1000))
 
 abbrev pub exact_weight : Fraction → Section → Material → Fraction
-exact_weight pi s m = exact_weight_of (exact_area pi (square_difference s false)) s m
+exact_weight pi s m = exact_weight_of (exact_area pi (difference_of_squares s false)) s m
 
 -- the section's values at this value of pi lie in their intervals
 pub record EnclosesTube (v : SectionIv) (s : Section) (m : Material) (reduced : Bool) (pi : Fraction) : Type 0 where
-  pub area : Within v.area (exact_area pi (square_difference s reduced))
-  pub modulus : Within v.modulus (exact_modulus pi (square_difference s reduced) (square_sum s reduced) s.d)
+  pub area : Within v.area (exact_area pi (difference_of_squares s reduced))
+  pub modulus : Within v.modulus (exact_modulus pi (difference_of_squares s reduced) (square_sum s reduced) s.d)
   pub weight : Within v.weight (exact_weight pi s m)
 
 -- ---- the rounded values

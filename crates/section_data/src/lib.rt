@@ -3,10 +3,11 @@
 
 ghost use Rattle.std.specs.Prelude.{◌≡◌, ◌^◌, Ok, Bool, false, pos, ◌*ℤ◌};
 ghost use Rattle.flex_interval.specs.Fraction.{Fraction, Within};
-ghost use Rattle.flex_interval.specs.Operations.{and_then, ratio_of};
+ghost use Rattle.flex_interval.specs.Operations.{ratio_of};
+ghost use Rattle.lists.specs.Results.{and_then};
 ghost use Rattle.angle_table.specs.Pi.{pi_ends};
 ghost use Rattle.model_types.specs.Ranges.{MaterialInForm};
-ghost use Rattle.section_data.specs.Tube.{IsTube, square_difference, square_sum, weight_of, EnclosesTube};
+ghost use Rattle.section_data.specs.Tube.{IsTube, difference_of_squares, square_sum, weight_of, EnclosesTube};
 
 use flex_interval::Iv;
 use model_types::{Material, Section};
@@ -33,12 +34,12 @@ pub fn section(s: &Section, m: &Material, reduced: bool) -> SectionIv
     requires tube { IsTube s.now }
     requires material { MaterialInForm m.now }
 
-    ensures x { result.x ≡ square_difference s.now reduced }
+    ensures x { result.x ≡ difference_of_squares s.now reduced }
     ensures y { result.y ≡ square_sum s.now reduced }
 
-    ensures area { ratio_of pi_ends (square_difference s.now reduced) (pos (2 ^ 42)) ≡ Ok result.area }
+    ensures area { ratio_of pi_ends (difference_of_squares s.now reduced) (pos (2 ^ 42)) ≡ Ok result.area }
     ensures modulus { ratio_of result.area (square_sum s.now reduced) (pos 8 *ℤ s.now.d) ≡ Ok result.modulus }
-    ensures weight { and_then (ratio_of pi_ends (square_difference s.now false) (pos (2 ^ 42))) (λ area. weight_of area s.now m.now) ≡ Ok result.weight }
+    ensures weight { and_then (ratio_of pi_ends (difference_of_squares s.now false) (pos (2 ^ 42))) (λ area. weight_of area s.now m.now) ≡ Ok result.weight }
 
     ensures encloses { (pi : Fraction) → Within pi_ends pi → EnclosesTube result s.now m.now reduced pi }
 {

@@ -3,7 +3,7 @@ ghost use Rattle.flex_interval.specs.Fraction.{Fraction, Within, scaled, whole};
 ghost use Rattle.flex_interval.specs.Operations.{ratio_of, point_of};
 ghost use Rattle.angle_table.specs.Pi.{pi_ends};
 ghost use Rattle.model_types.specs.Ranges.{MaterialInForm};
-ghost use Rattle.section_data.specs.Tube.{IsTube, IsHollow, inside_diameter as inside_of, wall_of, square_difference as square_difference_of, exact_area, exact_weight_of, weight_factor, weight_of};
+ghost use Rattle.section_data.specs.Tube.{IsTube, IsHollow, inside_diameter as inside_of, wall_of, difference_of_squares, exact_area, exact_weight_of, weight_factor, weight_of};
 
 use angle_table::pi;
 use flex_interval::{Iv, point, share, small_sum};
@@ -98,8 +98,8 @@ fn eightfold(outside: i64) -> i128
 /// The area of the full wall.
 pub fn full_area(s: &Section) -> Iv
     requires { IsTube s.now }
-    ensures value { ratio_of pi_ends (square_difference_of s.now false) (pos (2 ^ 42)) ≡ Ok result }
-    ensures within { (pi : Fraction) → Within pi_ends pi → Within result (exact_area pi (square_difference_of s.now false)) }
+    ensures value { ratio_of pi_ends (difference_of_squares s.now false) (pos (2 ^ 42)) ≡ Ok result }
+    ensures within { (pi : Fraction) → Within pi_ends pi → Within result (exact_area pi (difference_of_squares s.now false)) }
     ensures lo { pos 0 ≤ℤ result.lo }
     ensures hi { result.hi ≤ℤ pos (2 ^ 58) }
 {

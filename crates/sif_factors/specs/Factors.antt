@@ -3,7 +3,8 @@ use Rattle.std.specs.Prelude.{◌^◌, ℤ, pos, ◌+ℤ◌, ◌*ℤ◌, int_le,
 use Rattle.flex_interval.specs.Ends.{Ends}
 use Rattle.flex_interval.specs.Fraction.{Fraction, whole, greater, over}
 use Rattle.flex_interval.specs.declared.fault.IvFault.{IvFault}
-use Rattle.flex_interval.specs.Operations.{and_then, point_of}
+use Rattle.flex_interval.specs.Operations.{point_of}
+use Rattle.lists.specs.Results.{and_then}
 use Rattle.model_types.specs.declared.records.Section.{Section}
 use Rattle.model_types.specs.declared.records.TeeKind.{TeeKind}
 use Rattle.model_types.specs.declared.records.TeeKind.TheVariants.{Unreinforced, Pad, Coefficient}

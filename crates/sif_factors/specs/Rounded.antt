@@ -2,7 +2,8 @@
 use Rattle.std.specs.Prelude.{◌^◌, ℤ, pos, ◌*ℤ◌, Result, Ok}
 use Rattle.flex_interval.specs.Ends.{Ends}
 use Rattle.flex_interval.specs.declared.fault.IvFault.{IvFault}
-use Rattle.flex_interval.specs.Operations.{and_then, point_of, add_of, max_of, mul_of, ratio_of, cbrt_of}
+use Rattle.flex_interval.specs.Operations.{point_of, add_of, max_of, mul_of, ratio_of, cbrt_of}
+use Rattle.lists.specs.Results.{and_then}
 
 -- 1/h in 2^-40, for h = p / n
 unfoldable pub inverse_of : ℤ → ℤ → Result Ends IvFault

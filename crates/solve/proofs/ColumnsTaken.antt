@@ -1,11 +1,11 @@
 -- What a column takes from a list of numerators.
 use Rattle.std.specs.Prelude.{if◌then◌else◌, slice_set}
-use Rattle.std.proofs.Common.{◌≡◌, ◌≢◌, ℕ, suc, ◌+◌, ◌<◌, ◌≤◌, ◌⊎◌, inl, inr, nat_eq, List, length, get_or, slice_index, refl, sym, ◌∙◌, ap, add-one, arith, ◌^◌, ℤ, pos, ◌+ℤ◌, ◌-ℤ◌, ◌*ℤ◌, ◌≤ℤ◌, get_or-set_same, get_or-set_other}
+use Rattle.std.proofs.Common.{slice_index_or, ◌≡◌, ◌≢◌, ℕ, suc, ◌+◌, ◌<◌, ◌≤◌, ◌⊎◌, inl, inr, nat_eq, List, length, get_or, slice_index, refl, sym, ◌∙◌, ap, add-one, arith, ◌^◌, ℤ, pos, ◌+ℤ◌, ◌-ℤ◌, ◌*ℤ◌, ◌≤ℤ◌, get_or-set_same, get_or-set_other}
 use Rattle.std.proofs.lemmas.Bool.Decides.{nat_tests}
 use Rattle.std.proofs.Math.ListN.{length-set}
 use Rattle.int_laws.proofs.Sums.{int_sums}
 use Rattle.int_laws.proofs.SumLaws.{sum_below-le_more}
-use Rattle.factor_data.proofs.ColumnLemmas.{term-here, term-elsewhere}
+use Rattle.lists.proofs.PatternLemmas.{term-here, term-elsewhere}
 use Rattle.flex_num.specs.declared.guarded.GuardedSum.{GuardedSum}
 use Rattle.solve.specs.Substitution.{at}
 use Rattle.int_laws.specs.Matrices.{absolute}
@@ -36,13 +36,13 @@ scatter-step old left rows values j unknown v n inside before value size =
       value = λ i after in_old. elim (cases i) [
         | inl here ↦
             let past_is = past-here j (slice_index rows v) (at values v *ℤ unknown) (omega arith) in
-            let term = term-here (λ z. z *ℤ unknown) rows values v i (sym here) in
+            let term = term-here rows (λ u. slice_index_or values u (pos 0) *ℤ unknown) v i (sym here) in
             let was = before.value i after in_old in
             let at_is = ap (λ (k : ℕ). value_at left k) here in
             let now = ap (λ (m : GuardedSum). m.value) (ap (λ (k : ℕ). get_or (slice_set left (slice_index rows v) n) k zero_sum) here ∙ set_here left (slice_index rows v) n inside) in
             rw (add-one v) (omega (arith, int_sums, now, value, past_is, term, was, at_is))
         | inr other ↦
-            let term = term-elsewhere (λ z. z *ℤ unknown) rows values v i (λ e. other (sym e)) in
+            let term = term-elsewhere rows (λ u. slice_index_or values u (pos 0) *ℤ unknown) v i (λ e. other (sym e)) in
             let was = before.value i after in_old in
             let now = ap (λ (m : GuardedSum). m.value) (set_other left (slice_index rows v) i n other) in
             rw (add-one v) (omega (arith, int_sums, now, term, was))
@@ -50,13 +50,13 @@ scatter-step old left rows values j unknown v n inside before value size =
       size = λ i after in_old. elim (cases i) [
         | inl here ↦
             let past_is = past-here j (slice_index rows v) (absolute (at values v *ℤ unknown)) (omega arith) in
-            let term = term-here (λ z. absolute (z *ℤ unknown)) rows values v i (sym here) in
+            let term = term-here rows (λ u. absolute (slice_index_or values u (pos 0) *ℤ unknown)) v i (sym here) in
             let was = before.size i after in_old in
             let at_is = ap (λ (k : ℕ). size_at left k) here in
             let now = ap (λ (m : GuardedSum). pos m.size) (ap (λ (k : ℕ). get_or (slice_set left (slice_index rows v) n) k zero_sum) here ∙ set_here left (slice_index rows v) n inside) in
             rw (add-one v) (omega (arith, int_sums, now, size, past_is, term, was, at_is))
         | inr other ↦
-            let term = term-elsewhere (λ z. absolute (z *ℤ unknown)) rows values v i (λ e. other (sym e)) in
+            let term = term-elsewhere rows (λ u. absolute (slice_index_or values u (pos 0) *ℤ unknown)) v i (λ e. other (sym e)) in
             let was = before.size i after in_old in
             let now = ap (λ (m : GuardedSum). pos m.size) (set_other left (slice_index rows v) i n other) in
             rw (add-one v) (omega (arith, int_sums, now, term, was))
@@ -82,7 +82,7 @@ scatter-beyond old left rows values j unknown v listed inside before broad =
     elim side [
       | inl after ↦
           let past_is = past-here j row (absolute (at values v *ℤ unknown)) after in
-          let term = term-here (λ z. absolute (z *ℤ unknown)) rows values v row refl in
+          let term = term-here rows (λ u. absolute (slice_index_or values u (pos 0) *ℤ unknown)) v row refl in
           let was = before.size row after (omega (arith, before.length_kept)) in
           let more = taken_size-le rows values unknown (suc v) (length rows) row listed in
           record { row = row; past = after; inside = omega (arith, before.length_kept); broad = omega (arith, int_sums, broad, past_is, term, was, more) }

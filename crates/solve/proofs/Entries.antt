@@ -1,5 +1,5 @@
 -- A column's places against its entries in all rows.
-use Rattle.std.proofs.Common.{◌≡◌, ℕ, ◌*◌, ◌<◌, inl, inr, List, length, slice_index, Contains, refl, sym, ◌∙◌, ap, subst, ℤ, pos, ◌*ℤ◌}
+use Rattle.std.proofs.Common.{slice_index_or, ◌≡◌, ℕ, ◌*◌, ◌<◌, inl, inr, List, length, slice_index, Contains, refl, sym, ◌∙◌, ap, subst, ℤ, pos, ◌*ℤ◌}
 use Rattle.std.proofs.lemmas.List.{get_or_default}
 use Rattle.int_laws.specs.Sums.{sum_below}
 use Rattle.int_laws.proofs.Products.{zero-mul}
@@ -7,7 +7,7 @@ use Rattle.int_laws.proofs.SumLaws.{sum_below-same, sum_below-reindexed}
 use Rattle.lists.specs.Order.{IsSpread}
 use Rattle.factor_data.specs.Columns.{IsFactor, column_rows, column_part, column_entry}
 use Rattle.factor_data.specs.Columns.{ColumnLists}
-use Rattle.factor_data.proofs.ColumnLemmas.{part-listed, part-missing}
+use Rattle.lists.proofs.PatternLemmas.{sum-listed, sum-unlisted}
 use Rattle.lists.proofs.UniqueLemmas.{decide_contains}
 use Rattle.lists.proofs.PlaceLemmas.{spread-rising}
 use Rattle.solve.specs.Substitution.{at}
@@ -24,9 +24,9 @@ part-weighted : (weight : ℤ → ℤ) (rows : List ℕ) (values : List ℤ) (n 
 part-weighted weight rows values n i none spread = elim (decide_contains rows i) [
   | inl found ↦
       let at_place = place rows i found in
-      part-listed weight rows values n at_place.0 i spread at_place.1 at_place.2
-      ∙ sym (ap weight (part-listed (λ z. z) rows values n at_place.0 i spread at_place.1 at_place.2))
-  | inr missing ↦ part-missing weight rows values i missing ∙ sym (ap weight (part-missing (λ z. z) rows values i missing) ∙ none)
+      sum-listed rows (λ u. weight (slice_index_or values u (pos 0))) n at_place.0 i spread at_place.1 at_place.2
+      ∙ sym (ap weight (sum-listed rows (λ u. slice_index_or values u (pos 0)) n at_place.0 i spread at_place.1 at_place.2))
+  | inr missing ↦ sum-unlisted rows (λ u. weight (slice_index_or values u (pos 0))) i missing ∙ sym (ap weight (sum-unlisted rows (λ u. slice_index_or values u (pos 0)) i missing) ∙ none)
 ]
 
 -- what a whole column takes is its entry times the unknown
@@ -46,12 +46,12 @@ sum-past : (term : ℤ → ℤ → ℤ) (rows : List ℕ) (values x : List ℤ) 
 sum-past term rows values x n j none spread =
     sum_below-same (length rows) (λ v. past j (slice_index rows v) (term (at values v) (at x (slice_index rows v))))
     (λ v. past j (slice_index rows v) (term (column_entry rows values (slice_index rows v)) (at x (slice_index rows v))))
-    (λ v inside. ap (λ (z : ℤ). past j (slice_index rows v) (term z (at x (slice_index rows v)))) (sym (part-listed (λ z. z) rows values n v (slice_index rows v) spread inside refl)))
+    (λ v inside. ap (λ (z : ℤ). past j (slice_index rows v) (term z (at x (slice_index rows v)))) (sym (sum-listed rows (λ u. slice_index_or values u (pos 0)) n v (slice_index rows v) spread inside refl)))
     ∙ sum_below-reindexed (length rows) n (slice_index rows) (λ i. past j i (term (column_entry rows values i) (at x i)))
     spread.in_range spread.apart
     (λ i _. elim (decide_contains rows i) [
       | inl found ↦ inr (place rows i found)
-      | inr missing ↦ inl (ap (λ (z : ℤ). past j i (term z (at x i))) (part-missing (λ z. z) rows values i missing)
+      | inr missing ↦ inl (ap (λ (z : ℤ). past j i (term z (at x i))) (sum-unlisted rows (λ u. slice_index_or values u (pos 0)) i missing)
           ∙ ap (past j i) (none (at x i)) ∙ past-none j i)
     ])
 

@@ -3,7 +3,7 @@ use Rattle.std.specs.Prelude.{slice_set}
 use Rattle.std.proofs.Common.{◌≡◌, ◌≢◌, ℕ, ◌+◌, ◌*◌, ◌<◌, ◌≤◌, ◌⊎◌, inl, inr, List, length, sym, ◌∙◌, ap, arith, ℤ, pos, ◌+ℤ◌, get_or-set_same, get_or-set_other}
 use Rattle.lists.specs.Rows.{freedom_at}
 use Rattle.lists.specs.Order.{IsOrder}
-use Rattle.factor_data.proofs.OrderLemmas.{column-apart}
+use Rattle.lists.proofs.RowLemmas.{column-apart}
 use Rattle.solve.specs.Substitution.{at}
 
 -- the unknowns before j are added, and no other

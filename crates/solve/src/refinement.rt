@@ -1,7 +1,7 @@
 ghost use Rattle.std.specs.Prelude.{◌≡◌, ℕ, ◌+◌, ◌*◌, ◌/◌, ◌^◌, ◌<◌, ◌≤◌, ◌⊎◌, [], length, replicate, unsigned_abs, ℤ, pos, ◌+ℤ◌, ◌<ℤ◌, OnOk, OnErr, IfOk, Err};
-ghost use Rattle.member_set.specs.Members.{IsSystem, IsModerate, row_count, node_count, system};
+ghost use Rattle.member_set.specs.Members.{IsSystem, IsModerate, row_count, built_nodes, system};
 ghost use Rattle.member_set.specs.Interval.{residual_of};
-ghost use Rattle.factor_data.specs.Columns.{entry};
+ghost use Rattle.factor_data.specs.Columns.{factor_entry};
 ghost use Rattle.lists.specs.Rows.{freedom_at};
 ghost use Rattle.lists.specs.Order.{IsOrder};
 ghost use Rattle.flex_num.specs.Guarded.{value_at};
@@ -46,10 +46,10 @@ pub fn candidate(
     requires system { IsSystem (system b.now laws.now loads.now) }
     requires no_one_way { b.now.unilateral ≡ [] }
     requires no_states { closed.now ≡ [] }
-    requires factor { length f.now.order ≡ node_count b.now }
-    requires diagonal { (j : ℕ) → j < row_count b.now → pos 0 <ℤ entry f.now j j }
-    ensures ok { IfOk result (λ u. IsCandidate (problem (system b.now laws.now loads.now) f.now.order (entry f.now)) u.items) }
-    ensures wide { result ≡ Err SolveFault.Wide → IsTooWide (problem (system b.now laws.now loads.now) f.now.order (entry f.now)) }
+    requires factor { length f.now.order ≡ built_nodes b.now }
+    requires diagonal { (j : ℕ) → j < row_count b.now → pos 0 <ℤ factor_entry f.now j j }
+    ensures ok { IfOk result (λ u. IsCandidate (problem (system b.now laws.now loads.now) f.now.order (factor_entry f.now)) u.items) }
+    ensures wide { result ≡ Err SolveFault.Wide → IsTooWide (problem (system b.now laws.now loads.now) f.now.order (factor_entry f.now)) }
 {
     let rows = loads.len();
     let mut u = vec![in alloc; 0; rows]?;
@@ -72,14 +72,14 @@ fn refine(
     left: &mut [GuardedSum],
 ) -> Result<(), Wide>
     requires system { IsSystem (system b.now laws.now loads.now) }
-    requires factor { length f.now.order ≡ node_count b.now }
-    requires diagonal { (j : ℕ) → j < row_count b.now → pos 0 <ℤ entry f.now j j }
+    requires factor { length f.now.order ≡ built_nodes b.now }
+    requires diagonal { (j : ℕ) → j < row_count b.now → pos 0 <ℤ factor_entry f.now j j }
     requires at_rest { u.old ≡ replicate (row_count b.now) (pos 0) }
     requires one_force_each { length forces.old ≡ length b.now.members }
     requires one_unknown_each { length x.old ≡ row_count b.now }
     requires one_numerator_each { length left.old ≡ row_count b.now }
-    ensures candidate { OnOk result (IsCandidate (problem (system b.now laws.now loads.now) f.now.order (entry f.now)) u.new) }
-    ensures wide { OnErr result (IsTooWide (problem (system b.now laws.now loads.now) f.now.order (entry f.now))) }
+    ensures candidate { OnOk result (IsCandidate (problem (system b.now laws.now loads.now) f.now.order (factor_entry f.now)) u.new) }
+    ensures wide { OnErr result (IsTooWide (problem (system b.now laws.now loads.now) f.now.order (factor_entry f.now))) }
 {
     for _turn in 0..TURNS {
         turn(b, laws, loads, f, u, forces, x, left)?;
@@ -99,15 +99,15 @@ fn turn(
     left: &mut [GuardedSum],
 ) -> Result<(), Wide>
     requires system { IsSystem (system b.now laws.now loads.now) }
-    requires factor { length f.now.order ≡ node_count b.now }
-    requires diagonal { (j : ℕ) → j < row_count b.now → pos 0 <ℤ entry f.now j j }
+    requires factor { length f.now.order ≡ built_nodes b.now }
+    requires diagonal { (j : ℕ) → j < row_count b.now → pos 0 <ℤ factor_entry f.now j j }
     requires one_displacement_each { length u.old ≡ row_count b.now }
     requires moderate { IsModerate u.old }
     requires one_force_each { length forces.old ≡ length b.now.members }
     requires one_unknown_each { length x.old ≡ row_count b.now }
     requires one_numerator_each { length left.old ≡ row_count b.now }
-    ensures turned { OnOk result (IsTurn (problem (system b.now laws.now loads.now) f.now.order (entry f.now)) u.old u.new) }
-    ensures breaks { OnErr result (TurnBreaks (problem (system b.now laws.now loads.now) f.now.order (entry f.now)) u.old) }
+    ensures turned { OnOk result (IsTurn (problem (system b.now laws.now loads.now) f.now.order (factor_entry f.now)) u.old u.new) }
+    ensures breaks { OnErr result (TurnBreaks (problem (system b.now laws.now loads.now) f.now.order (factor_entry f.now)) u.old) }
 {
     middles(b, laws, loads, u, forces, x)?;
     let digits = scale_digits(x)?;

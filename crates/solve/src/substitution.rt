@@ -1,5 +1,5 @@
 ghost use Rattle.std.specs.Prelude.{◌≡◌, ℕ, ◌+◌, ◌*◌, ◌^◌, ◌<◌, ◌≤◌, length, All, ℤ, pos, ◌-ℤ◌, ◌+ℤ◌, ◌*ℤ◌, ◌<ℤ◌, ◌≤ℤ◌, OnOk, OnErr, IfOk, IfErr, slice_index};
-ghost use Rattle.factor_data.specs.Columns.{entry, IsFactor};
+ghost use Rattle.factor_data.specs.Columns.{factor_entry, IsFactor};
 ghost use Rattle.flex_num.specs.Guarded.{value_at};
 ghost use Rattle.solve.specs.Numerators.{TakesColumn, gathered, gathered_size, IsNumeratorBroad, IsUntaken};
 ghost use Rattle.solve.specs.Substitution.{at, IsForward, ForwardBreaks, IsBackward, BackwardBreaks};
@@ -14,11 +14,11 @@ use flex_num::GuardedSum;
 pub fn forward(f: &Factor, left: &mut [GuardedSum], y: &mut [i128]) -> Result<(), Wide>
     requires numbered { length y.old ≤ 2 ^ 32 }
     requires factor { 6 * length f.now.order ≡ length y.old }
-    requires diagonal { (j : ℕ) → j < length y.old → pos 0 <ℤ entry f.now j j }
+    requires diagonal { (j : ℕ) → j < length y.old → pos 0 <ℤ factor_entry f.now j j }
     requires one_numerator_each { length left.old ≡ length y.old }
     requires whole { IsUntaken left.old }
-    ensures solved { OnOk result (IsForward (length y.old) (entry f.now) (value_at left.old) y.new) }
-    ensures broad { OnErr result (ForwardBreaks (length y.old) (entry f.now) (value_at left.old)) }
+    ensures solved { OnOk result (IsForward (length y.old) (factor_entry f.now) (value_at left.old) y.new) }
+    ensures broad { OnErr result (ForwardBreaks (length y.old) (factor_entry f.now) (value_at left.old)) }
 {
     for j in 0..y.len() {
         let position = j as u32;
@@ -54,10 +54,10 @@ fn scatter(
 pub fn backward(f: &Factor, digits: u32, x: &mut [i128]) -> Result<(), Wide>
     requires numbered { length x.old ≤ 2 ^ 32 }
     requires factor { 6 * length f.now.order ≡ length x.old }
-    requires diagonal { (j : ℕ) → j < length x.old → pos 0 <ℤ entry f.now j j }
+    requires diagonal { (j : ℕ) → j < length x.old → pos 0 <ℤ factor_entry f.now j j }
     requires digits { digits ≤ 88 }
-    ensures solved { OnOk result (IsBackward (length x.old) (entry f.now) (λ j. at x.old j *ℤ pos (2 ^ digits)) x.new) }
-    ensures broad { OnErr result (BackwardBreaks (length x.old) (entry f.now) (λ j. at x.old j *ℤ pos (2 ^ digits))) }
+    ensures solved { OnOk result (IsBackward (length x.old) (factor_entry f.now) (λ j. at x.old j *ℤ pos (2 ^ digits)) x.new) }
+    ensures broad { OnErr result (BackwardBreaks (length x.old) (factor_entry f.now) (λ j. at x.old j *ℤ pos (2 ^ digits))) }
 {
     let scale = power_of_two(digits);
     let mut j = x.len();

@@ -4,7 +4,7 @@ use Rattle.std.specs.List.{flat_map}
 use Rattle.flex_interval.specs.declared.fault.Wide.{Wide}
 use Rattle.member_set.specs.declared.members.Member.{Member}
 use Rattle.member_set.specs.declared.members.Built.{Built}
-use Rattle.member_set.specs.Members.{IsBuilt, member_of, node_count}
+use Rattle.member_set.specs.Members.{IsBuilt, member_of, built_nodes}
 use Rattle.model_types.specs.Lists.{Lists}
 use Rattle.structure.specs.Elements.{members_of_element, element_at}
 use Rattle.structure.specs.Anchors.{restraint_members}
@@ -35,7 +35,7 @@ model_members m = then_members (element_members m (length m.elements)) (λ membe
 -- the structure of a model, all of whose members are linear; stations are left out
 pub record IsStructureOf (m : Lists) (b : Built) : Type 0 where
   pub members : model_members m ≡ Ok b.members
-  pub nodes : node_count b ≡ length m.nodes
+  pub nodes : built_nodes b ≡ length m.nodes
   pub built : IsBuilt b
   pub linear : b.unilateral ≡ []
   pub no_stations : b.stations ≡ []

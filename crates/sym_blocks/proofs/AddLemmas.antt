@@ -9,8 +9,8 @@ use Rattle.std.proofs.lemmas.List.{map-set, get_or_default}
 use Rattle.std.proofs.lemmas.List.Elements.{Contains-get_or}
 use Rattle.std.proofs.lemmas.Int.{to_z-of_z, fits_signed_from_abs}
 use Rattle.sym_blocks.specs.Matrix.{AddsAt}
-use Rattle.sym_blocks.specs.Storage.{Block, stored, matrix_of, at_place, IsLayout, AddsToStored, AddsBoth}
-use Rattle.sym_blocks.proofs.StorageLemmas.{IsTarget, stored_target, written, stored-written_same, stored-written_other, cases_both, entry-matrix_of}
+use Rattle.sym_blocks.specs.Storage.{Block, stored, stored_matrix, at_place, IsLayout, AddsToStored, AddsBoth}
+use Rattle.sym_blocks.proofs.StorageLemmas.{IsTarget, stored_target, written, stored-written_same, stored-written_other, cases_both, entry-stored_matrix}
 
 -- what was read on the way to an entry, by what is stored: the place of the column's node, and its block
 pub record IsEntry (lists : List (List ℕ)) (blocks : List (Vec Block Global)) (row col : ℕ) (beside : Vec Block Global) (place : ℕ) (block : Block) : Type 0 where
@@ -94,10 +94,10 @@ symmetric-AddsBoth lists a b row col v adds same i j =
     ]
 
 -- the same of the whole matrix
-pub AddsAt-matrix_of : (lists : List (List ℕ)) (a b : List (List Block)) (row col : ℕ) (v : ℤ) → IsLayout lists a → IsLayout lists b → AddsBoth lists a b row col v → AddsAt (matrix_of lists a) (matrix_of lists b) row col v
-AddsAt-matrix_of lists a b row col v old new adds =
-    let at = entry-matrix_of lists a old in
-    let at' = entry-matrix_of lists b new in
+pub AddsAt-stored_matrix : (lists : List (List ℕ)) (a b : List (List Block)) (row col : ℕ) (v : ℤ) → IsLayout lists a → IsLayout lists b → AddsBoth lists a b row col v → AddsAt (stored_matrix lists a) (stored_matrix lists b) row col v
+AddsAt-stored_matrix lists a b row col v old new adds =
+    let at = entry-stored_matrix lists a old in
+    let at' = entry-stored_matrix lists b new in
     record {
       pattern = refl;
       place = at' row col ∙ adds.place ∙ ap (λ z. z +ℤ v) (sym (at row col));

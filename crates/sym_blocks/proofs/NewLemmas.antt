@@ -9,9 +9,9 @@ use Rattle.std.proofs.lemmas.List.FromFn.{get_or-map-range_with_len, length-map-
 use Rattle.lists.specs.Rising.{IsRising}
 use Rattle.lists.specs.Order.{place_of}
 use Rattle.sym_blocks.specs.Matrix.{entry, IsLinked}
-use Rattle.sym_blocks.specs.Storage.{Block, own_lists_of, zero_block, zero_blocks_of, block_beside, at_place, stored, matrix_of, IsStorage, IsWhole}
+use Rattle.sym_blocks.specs.Storage.{Block, own_lists_of, zero_block, zero_blocks_of, block_beside, at_place, stored, stored_matrix, IsStorage, IsWhole}
 use Rattle.lists.specs.Lists.{LinksLists}
-use Rattle.sym_blocks.proofs.StorageLemmas.{entry-matrix_of}
+use Rattle.sym_blocks.proofs.StorageLemmas.{entry-stored_matrix}
 
 -- ---- each node with itself alone
 pub length-own_lists_of : (nodes : ℕ) → length (own_lists_of nodes) ≡ nodes
@@ -129,5 +129,5 @@ IsStorage-new nodes lists pairs within links =
       symmetric = λ i j. zero i j ∙ sym (zero j i);
     }
 
-pub entry-zero : (lists : List (List ℕ)) → IsStorage lists (zero_blocks_of lists) → (i j : ℕ) → entry (matrix_of lists (zero_blocks_of lists)) i j ≡ pos 0
-entry-zero lists ok i j = entry-matrix_of lists (zero_blocks_of lists) ok.layout i j ∙ stored-zero lists i j
+pub entry-zero : (lists : List (List ℕ)) → IsStorage lists (zero_blocks_of lists) → (i j : ℕ) → entry (stored_matrix lists (zero_blocks_of lists)) i j ≡ pos 0
+entry-zero lists ok i j = entry-stored_matrix lists (zero_blocks_of lists) ok.layout i j ∙ stored-zero lists i j

@@ -7,7 +7,7 @@ use Rattle.std.proofs.lemmas.Bool.{cases_lt, cases_eq}
 use Rattle.std.proofs.lemmas.List.{get_or-set_same, get_or-set_other, get_or_past, get_or_default, length-set}
 use Rattle.std.proofs.lemmas.List.FromFn.{get_or-map-range_with_len, length-map-range_with_len}
 use Rattle.sym_blocks.specs.Matrix.{entry, IsSymmetricByBlocks}
-use Rattle.sym_blocks.specs.Storage.{Block, block_beside, at_place, stored, matrix_of, IsLayout, IsStorage, IsWhole}
+use Rattle.sym_blocks.specs.Storage.{Block, block_beside, at_place, stored, stored_matrix, IsLayout, IsStorage, IsWhole}
 use Rattle.sym_blocks.proofs.BlockLemmas.{block_beside-at, block_beside-absent, block_beside-set_other, at_place-set_same, at_place-set_other}
 
 -- ---- the whole matrix
@@ -23,8 +23,8 @@ nothing_past lists n k le (p, lt, is) =
     let lt' : p < 0 = subst P none lt in
     omega arith
 
-pub entry-matrix_of : (lists : List (List ℕ)) (blocks : List (List Block)) → IsLayout lists blocks → (i j : ℕ) → entry (matrix_of lists blocks) i j ≡ stored lists blocks i j
-entry-matrix_of lists blocks ok i j =
+pub entry-stored_matrix : (lists : List (List ℕ)) (blocks : List (List Block)) → IsLayout lists blocks → (i j : ℕ) → entry (stored_matrix lists blocks) i j ≡ stored lists blocks i j
+entry-stored_matrix lists blocks ok i j =
     let n = 6 * length lists in
     let row = map (stored lists blocks i) (range_with_len 0 n) in
     elim (cases_lt i n) [
@@ -41,9 +41,9 @@ entry-matrix_of lists blocks ok i j =
           ∙ sym (stored_outside lists blocks i j ok (nothing_past lists (i / 6) (j / 6) (omega arith)))
     ]
 
-pub IsSymmetricByBlocks-matrix_of : (lists : List (List ℕ)) (blocks : List (List Block)) → IsStorage lists blocks → IsSymmetricByBlocks (matrix_of lists blocks)
-IsSymmetricByBlocks-matrix_of lists blocks ok =
-    let at = entry-matrix_of lists blocks ok.layout in
+pub IsSymmetricByBlocks-stored_matrix : (lists : List (List ℕ)) (blocks : List (List Block)) → IsStorage lists blocks → IsSymmetricByBlocks (stored_matrix lists blocks)
+IsSymmetricByBlocks-stored_matrix lists blocks ok =
+    let at = entry-stored_matrix lists blocks ok.layout in
     record {
       rising = ok.layout.rising;
       in_range = ok.layout.in_range;

@@ -35,8 +35,8 @@ abbrev pub stored : List (List ℕ) → List (List Block) → ℕ → ℕ → �
 stored lists blocks i j = at_place (block_beside (j / 6) (list_of lists (i / 6)) (list_of blocks (i / 6))) (i % 6) (j % 6)
 
 -- the whole matrix that is stored
-abbrev pub matrix_of : List (List ℕ) → List (List Block) → Matrix
-matrix_of lists blocks =
+abbrev pub stored_matrix : List (List ℕ) → List (List Block) → Matrix
+stored_matrix lists blocks =
     record {
       pattern = lists;
       rows = map (λ i. map (stored lists blocks i) (range_with_len 0 (6 * length lists))) (range_with_len 0 (6 * length lists));

@@ -26,11 +26,11 @@ pub struct SymBlocks {
 impl Model for SymBlocks {
     ghost use Rattle.sym_blocks.specs.Matrix.{Matrix};
     ghost use Rattle.lists.specs.Lists.{contents};
-    ghost use Rattle.sym_blocks.specs.Storage.{matrix_of, IsStorage};
+    ghost use Rattle.sym_blocks.specs.Storage.{stored_matrix, IsStorage};
 
     ghost Value = { Matrix };
 
-    ghost view = { λ s. matrix_of (contents s.neighbours.items) (contents s.blocks.items) };
+    ghost view = { λ s. stored_matrix (contents s.neighbours.items) (contents s.blocks.items) };
 
     ghost invariant = { λ s. IsStorage (contents s.neighbours.items) (contents s.blocks.items) };
 }

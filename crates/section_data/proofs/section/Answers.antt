@@ -2,10 +2,10 @@ use Rattle.std.proofs.Common.{rules, ◌≡◌, arith, FitsSigned, to_z, of_z, t
 use Rattle.std.proofs.lemmas.Int.{ints}
 use Rattle.std.specs.Int.{w128, w64}
 use Rattle.flex_interval.specs.Fraction.{Within}
-use Rattle.section_data.specs.Tube.{exact_area, exact_modulus, square_difference, square_sum}
+use Rattle.section_data.specs.Tube.{exact_area, exact_modulus, difference_of_squares, square_sum}
 use Rattle.section_data.proofs.section.Goals as goal
 
-x_is : (c : goal.After-weight) → to_z w128 (of_z w128 c.square_difference-x.result) ≡ square_difference c.args.s.now c.args.reduced
+x_is : (c : goal.After-weight) → to_z w128 (of_z w128 c.square_difference-x.result) ≡ difference_of_squares c.args.s.now c.args.reduced
 x_is c =
     let d_fits : FitsSigned w64 c.args.s.now.d = search rules in
     let inside_fits : FitsSigned w64 c.inside_diameter-inside.result = search rules in
@@ -43,7 +43,7 @@ returns-clause-modulus c = rw (y_is c, d_is c) at c.modulus.ensures.value
 pub returns-clause-encloses : goal.returns-clause-encloses
 unfolding exact_modulus
 returns-clause-encloses c = λ pi within.
-    let area : Within c.area-area.result (exact_area pi (square_difference c.args.s.now c.args.reduced)) = (rw (x_is c) at c.area-area.ensures.within) pi within in
+    let area : Within c.area-area.result (exact_area pi (difference_of_squares c.args.s.now c.args.reduced)) = (rw (x_is c) at c.area-area.ensures.within) pi within in
     record {
       area = area;
       modulus = (rw (y_is c, d_is c) at c.modulus.ensures.within) _ area;

@@ -8,7 +8,7 @@ use Rattle.int_laws.specs.Matrices.{absolute}
 use Rattle.lists.specs.Rows.{freedom_at}
 use Rattle.flex_num.specs.Guarded.{value_at}
 use Rattle.certificate.specs.RowResidual.{missed}
-use Rattle.factor_data.proofs.OrderLemmas.{column-below, row-below}
+use Rattle.lists.proofs.RowLemmas.{column-below, row-below}
 use Rattle.certificate.proofs.PatternLemmas.{pattern-numbered}
 use Rattle.certificate.proofs.ResidualLemmas.{nodes-spread, taken-step, others-step, missed-whole, missed-part, missed-more}
 use Rattle.certificate.proofs.blocks.take_residuals.Goals as goal

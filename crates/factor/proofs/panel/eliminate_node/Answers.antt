@@ -3,7 +3,7 @@ use Rattle.std.specs.Int.RustNames.{unsigned_abs}
 use Rattle.std.specs.Vec.{with_items}
 use Rattle.std.proofs.lemmas.List.{with_items_is}
 use Rattle.sym_blocks.specs.Matrix.{entry as stiffness}
-use Rattle.cholesky_laws.proofs.BoundLemmas.{scaled-small}
+use Rattle.cholesky_laws.proofs.BoundLemmas.{scaled_stiffness-small}
 use Rattle.factor.specs.Panel.{by_rows}
 use Rattle.factor.specs.Eliminate.{IsEliminated, IsPanelBreakdown}
 use Rattle.factor.specs.State.{matrix_of}
@@ -24,7 +24,7 @@ eliminate-requires-clause-small c =
     let P : List ℤ → Type 0 = λ xs. All (λ x. unsigned_abs x < 2 ^ 126) xs in
     subst P (sym c.deref-2.ensures.value)
     (left_small a p.parents.now (length p.order.now) c.args.node c.args.node c.deref.result.now c.in_ok-work.work.items q.few (omega arith) c.requires.node_in
-    (scaled-small (stiffness p.matrix.now) p.order.now p.shift q.small q.shift_low q.shift_high)
+    (scaled_stiffness-small (stiffness p.matrix.now) p.order.now p.shift q.small q.shift_low q.shift_high)
     (λ d lt. (c.requires.panels.known d lt).passes) (rw c.deref.ensures.value f.rising) (rw c.deref.ensures.value f.from_own) w.whole w.holds)
 
 pub eliminate-requires-clause-diagonal : goal.eliminate-requires-clause-diagonal
@@ -33,7 +33,7 @@ eliminate-requires-clause-diagonal c d dl =
     let q = c.requires.problem in
     let w = rw c.deref.ensures.value at c.in_ok-work.ensures in
     rw c.deref-2.ensures.value
-    (diagonal_low (scaled-small (stiffness p.matrix.now) p.order.now p.shift q.small q.shift_low q.shift_high) (front_own c.in_ok-nodes.ensures) w d dl)
+    (diagonal_low (scaled_stiffness-small (stiffness p.matrix.now) p.order.now p.shift q.small q.shift_low q.shift_high) (front_own c.in_ok-nodes.ensures) w d dl)
 
 pub returns-in-Err : goal.returns-in-Err
 returns-in-Err c =

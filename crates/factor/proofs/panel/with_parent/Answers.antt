@@ -1,6 +1,6 @@
 use Rattle.std.proofs.Common.{◌≡◌, ◌∙◌, ap, ℕ, Some, None, Vec, Global}
 use Rattle.elimination.specs.Elimination.{parent_of}
-use Rattle.factor.proofs.NearLemmas.{IsWithParent-none, IsWithParent-some}
+use Rattle.factor.proofs.AdjacencyLemmas.{IsWithParent-none, IsWithParent-some}
 use Rattle.factor.proofs.panel.with_parent.Goals as goal
 use Rattle.factor.proofs.panel.with_parent.Goals.{in-Some+in_ok-insert_rising-in-Some, in-None}
 

@@ -2,7 +2,7 @@ use Rattle.std.proofs.Common.{◌≡◌, ℕ, ◌+◌, ◌*◌, ◌/◌, ◌%◌
 use Rattle.std.proofs.lemmas.List.{map_push}
 use Rattle.lists.specs.Lists.{contents}
 use Rattle.factor.specs.Columns.{AreColumnRows, AreColumnValues}
-use Rattle.factor.proofs.UserLemmas.{nodes_read, entries_read}
+use Rattle.factor.proofs.RowPatternLemmas.{nodes_read, entries_read}
 use Rattle.factor.proofs.ColumnLemmas.{AreColumnsTo, columns_more, columns_fit, columns_hold, shape_bounds}
 use Rattle.factor.proofs.recurrence.columns.Goals as goal
 

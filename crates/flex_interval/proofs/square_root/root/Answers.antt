@@ -1,6 +1,6 @@
 use Rattle.std.proofs.Common.{rules, ◌≡◌, ap, ◌∙◌, pos, ◌≤ℤ◌, FitsSigned, to_z, of_z, to_z-of_z}
 use Rattle.std.specs.Int.{w128}
-use Rattle.flex_num.specs.Root.{IsRoot, IsRootUp, root_of, root_up_of}
+use Rattle.int_laws.specs.Root.{IsRoot, IsRootUp, root_of, root_up_of}
 use Rattle.flex_interval.specs.Ends.{Ends}
 use Rattle.flex_interval.specs.Operations.{sqrt_of}
 use Rattle.flex_interval.proofs.EndsLemmas.{small_fits}

@@ -1,7 +1,7 @@
 use Rattle.std.proofs.Common.{◌≡◌, arith, pos, to_z}
 use Rattle.std.proofs.lemmas.Int.{ints}
 use Rattle.std.specs.Int.{w128}
-use Rattle.flex_num.proofs.RootLemmas.{root_unique, cube_root_of-is}
+use Rattle.int_laws.proofs.RootLemmas.{root_unique, cube_root_of-is}
 use Rattle.flex_num.proofs.CubeRootLemmas.{cube_root_from}
 use Rattle.flex_num.proofs.cube_root.icbrt.Goals as goal
 

@@ -1,8 +1,8 @@
 use Rattle.std.proofs.Common.{◌≡◌, ◌+◌, arith, pos, ◌+ℤ◌, to_z}
 use Rattle.std.proofs.lemmas.Int.{ints}
 use Rattle.std.specs.Int.{w128}
-use Rattle.flex_num.specs.Root.{IsRoot}
-use Rattle.flex_num.proofs.RootLemmas.{root_up_when_exact, root_up_when_not, cube_root_up_of-is, root_up_unique}
+use Rattle.int_laws.specs.Root.{IsRoot}
+use Rattle.int_laws.proofs.RootLemmas.{root_up_when_exact, root_up_when_not, cube_root_up_of-is, root_up_unique}
 use Rattle.flex_num.proofs.CubeRootLemmas.{cube_root_from}
 use Rattle.flex_num.proofs.cube_root.icbrt_up.Goals as goal
 

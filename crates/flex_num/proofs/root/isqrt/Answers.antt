@@ -1,6 +1,6 @@
 use Rattle.std.proofs.Common.{rules, FitsSigned, to_z-of_z}
 use Rattle.std.specs.Int.{w128}
-use Rattle.flex_num.proofs.RootLemmas.{root_from_std, root_of-is, root_unique}
+use Rattle.int_laws.proofs.RootLemmas.{root_from_std, root_of-is, root_unique}
 use Rattle.flex_num.proofs.root.isqrt.Goals as goal
 
 pub returns-clause-meaning : goal.returns-clause-meaning

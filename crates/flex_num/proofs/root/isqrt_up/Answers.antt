@@ -2,8 +2,8 @@ use Rattle.std.proofs.Common.{rules, ap, arith, pos, ◌+ℤ◌, FitsSigned, to_
 use Rattle.std.specs.Int.{w128}
 use Rattle.int_laws.proofs.Sums.{int_sums}
 use Rattle.int_laws.proofs.Products.{square_nonnegative}
-use Rattle.flex_num.specs.Root.{IsRoot}
-use Rattle.flex_num.proofs.RootLemmas.{root_from_std, root_up_when_exact, root_up_when_not, root_up_of-is, root_up_unique}
+use Rattle.int_laws.specs.Root.{IsRoot}
+use Rattle.int_laws.proofs.RootLemmas.{root_from_std, root_up_when_exact, root_up_when_not, root_up_of-is, root_up_unique}
 use Rattle.flex_num.proofs.root.isqrt_up.Goals as goal
 
 pub returns-then-root-n-clause-meaning : goal.returns-then-root-n-clause-meaning

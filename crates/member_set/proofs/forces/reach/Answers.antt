@@ -6,8 +6,8 @@ use Rattle.flex_interval.specs.Fraction.{whole}
 use Rattle.flex_interval.specs.Operations.{add_of}
 use Rattle.member_set.specs.Members.{shape_at, nothing}
 use Rattle.member_set.specs.Realisation.{displaced}
-use Rattle.member_set.specs.Interval.{place_count, row_of, reach_term, reach_of}
-use Rattle.member_set.proofs.Rows.{place_count-le, shape_at-row_of, reach_by_places, nothing_is_zero}
+use Rattle.member_set.specs.Interval.{place_count, touched_row, reach_term, reach_of}
+use Rattle.member_set.proofs.Rows.{place_count-le, shape_at-touched_row, reach_by_places, nothing_is_zero}
 use Rattle.member_set.proofs.Turns.{in_turn-step, in_turn-term_fault, in_turn-step_fault}
 use Rattle.member_set.proofs.forces.reach.Goals as goal
 
@@ -42,7 +42,7 @@ loop-place-preserved c =
           c.loop-place.invariant.value (sym c.in_ok-reach_term.ensures.value) ∙ sym c.in_ok-total.ensures.value;
       within = λ q x positive shape.
           let inside : c.loop-place.place < place_count c.args.m.now = rw (← c.place_count-place-end.ensures) c.loop-place-test.true in
-          let here = rw (shape_at-row_of c.args.m.now c.loop-place.place inside) at (shape (row_of c.args.m.now c.loop-place.place)) in
+          let here = rw (shape_at-touched_row c.args.m.now c.loop-place.place inside) at (shape (touched_row c.args.m.now c.loop-place.place)) in
           rw (add-one c.loop-place.place)
           (reach_sum_within c.in_ok-total.total c.loop-place.total c.in_ok-reach_term.field-0 q _ _ positive
           (c.loop-place.invariant.within q x positive shape) (c.in_ok-reach_term.ensures.within q _ positive here) c.in_ok-total.ensures.within);

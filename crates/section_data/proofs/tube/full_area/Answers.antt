@@ -1,10 +1,10 @@
 use Rattle.std.proofs.Common.{rules, ◌≡◌, false, FitsSigned, to_z, of_z, to_z-of_z}
 use Rattle.std.specs.Int.{w128, w64}
-use Rattle.section_data.specs.Tube.{square_difference}
+use Rattle.section_data.specs.Tube.{difference_of_squares}
 use Rattle.section_data.proofs.tube.full_area.Goals as goal
 
 -- the number that the area is taken of
-difference_is : (c : goal.After-area) → to_z w128 (of_z w128 c.square_difference.result) ≡ square_difference c.args.s.now false
+difference_is : (c : goal.After-area) → to_z w128 (of_z w128 c.square_difference.result) ≡ difference_of_squares c.args.s.now false
 difference_is c =
     let d_fits : FitsSigned w64 c.args.s.now.d = search rules in
     let inside_fits : FitsSigned w64 c.inside_diameter.result = search rules in

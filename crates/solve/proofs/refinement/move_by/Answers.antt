@@ -3,7 +3,7 @@ use Rattle.std.specs.Prelude.{unsigned_abs}
 use Rattle.std.specs.Int.{w128}
 use Rattle.std.proofs.lemmas.Result.{err_from_is_err_and}
 use Rattle.std.proofs.lemmas.List.Elements.{All-set}
-use Rattle.factor_data.proofs.OrderLemmas.{row-below}
+use Rattle.lists.proofs.RowLemmas.{row-below}
 use Rattle.solve.proofs.Moving.{move-step}
 use Rattle.solve.proofs.refinement.move_by.Goals as goal
 

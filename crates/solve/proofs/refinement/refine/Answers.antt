@@ -4,7 +4,7 @@ use Rattle.std.proofs.lemmas.Result.{err_from_is_err_and}
 use Rattle.std.proofs.lemmas.List.Elements.{All-replicate}
 use Rattle.member_set.specs.Members.{row_count, system}
 use Rattle.solve.specs.Refinement.{problem, LeadTo}
-use Rattle.factor_data.specs.Columns.{entry}
+use Rattle.factor_data.specs.Columns.{factor_entry}
 use Rattle.solve.proofs.refinement.refine.Goals as goal
 
 pub loop-turn-init : goal.loop-turn-init
@@ -38,4 +38,4 @@ returns-in_err-turn c =
 pub returns-clause-candidate : goal.returns-clause-candidate
 returns-clause-candidate c =
     let done : c.loop-turn._turn ≡ 8 = omega arith in
-    subst (λ (n : ℕ). LeadTo (problem (system c.args.b.now c.args.laws.now c.args.loads.now) c.args.f.now.order (entry c.args.f.now)) n c.loop-turn.u) done c.loop-turn.invariant.lead
+    subst (λ (n : ℕ). LeadTo (problem (system c.args.b.now c.args.laws.now c.args.loads.now) c.args.f.now.order (factor_entry c.args.f.now)) n c.loop-turn.u) done c.loop-turn.invariant.lead

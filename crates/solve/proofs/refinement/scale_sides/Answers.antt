@@ -1,7 +1,7 @@
 use Rattle.std.proofs.Common.{rules, arith, ◌≡◌, ◌<◌, ◌⊎◌, inl, inr, sym, ◌∙◌, ap, length, get_or, get_or-set_same, get_or-set_other, FitsSigned, to_z-of_z, pos}
 use Rattle.std.specs.Int.{w128}
 use Rattle.lists.specs.Rows.{freedom_at}
-use Rattle.factor_data.proofs.OrderLemmas.{row-below}
+use Rattle.lists.proofs.RowLemmas.{row-below}
 use Rattle.flex_num.specs.declared.guarded.GuardedSum.{GuardedSum}
 use Rattle.int_laws.specs.Matrices.{absolute}
 use Rattle.flex_num.specs.Guarded.{zero_sum}

@@ -1,7 +1,7 @@
 use Rattle.std.proofs.Common.{◌≡◌, ℕ, ◌<◌, length, subst}
 use Rattle.std.proofs.lemmas.Result.{err_from_is_err_and, on_ok_weaker, on_err_weaker}
 use Rattle.member_set.specs.Members.{row_count}
-use Rattle.factor_data.specs.Columns.{entry}
+use Rattle.factor_data.specs.Columns.{factor_entry}
 use Rattle.flex_num.specs.Guarded.{value_at}
 use Rattle.solve.specs.Substitution.{IsBackward, BackwardBreaks}
 use Rattle.solve.specs.Refinement.{forward_side, backward_side, no_room, forward_broad, backward_broad, too_far}
@@ -24,7 +24,7 @@ returns-in_err-forward c =
     rw p.1 (record {
       turned = tt;
       breaks = forward_broad r c.in_ok-digits.digits c.in_ok-middles.ensures.middles c.in_ok-digits.ensures.scale
-          (forward_breaks-sides (length r) (row_count c.args.b.now) (entry c.args.f.now) (value_at c.scale_sides.new.left) (forward_side c.args.f.now.order r c.in_ok-digits.digits) size sides
+          (forward_breaks-sides (length r) (row_count c.args.b.now) (factor_entry c.args.f.now) (value_at c.scale_sides.new.left) (forward_side c.args.f.now.order r c.in_ok-digits.digits) size sides
           c.in_err-forward.ensures.broad);
     })
 
@@ -36,12 +36,12 @@ returns-in_err-backward c =
     let digits = c.in_ok-digits.digits in
     let size = c.in_ok-middles.ensures.middles.one_each in
     let sides : (j : ℕ) → j < n → value_at c.scale_sides.new.left j ≡ forward_side c.args.f.now.order r digits j = rw (← size, ← c.order.ensures.value) c.scale_sides.ensures.sides in
-    let solved = forward-sides (length r) n (entry c.args.f.now) (value_at c.scale_sides.new.left) (forward_side c.args.f.now.order r digits) c.forward.new.y size sides c.in_ok-forward.ensures.solved in
-    let breaks : BackwardBreaks (length c.forward.new.y) (entry c.args.f.now) (backward_side c.forward.new.y digits) = c.in_err-backward.ensures.broad in
+    let solved = forward-sides (length r) n (factor_entry c.args.f.now) (value_at c.scale_sides.new.left) (forward_side c.args.f.now.order r digits) c.forward.new.y size sides c.in_ok-forward.ensures.solved in
+    let breaks : BackwardBreaks (length c.forward.new.y) (factor_entry c.args.f.now) (backward_side c.forward.new.y digits) = c.in_err-backward.ensures.broad in
     rw p.1 (record {
       turned = tt;
       breaks = backward_broad r digits c.forward.new.y c.in_ok-middles.ensures.middles c.in_ok-digits.ensures.scale solved
-          (subst (λ (m : ℕ). BackwardBreaks m (entry c.args.f.now) (backward_side c.forward.new.y digits)) solved.one_each breaks);
+          (subst (λ (m : ℕ). BackwardBreaks m (factor_entry c.args.f.now) (backward_side c.forward.new.y digits)) solved.one_each breaks);
     })
 
 pub returns-clause-turned : goal.returns-clause-turned
@@ -51,9 +51,9 @@ returns-clause-turned c =
     let digits = c.in_ok-digits.digits in
     let size = c.in_ok-middles.ensures.middles.one_each in
     let sides : (j : ℕ) → j < n → value_at c.scale_sides.new.left j ≡ forward_side c.args.f.now.order r digits j = rw (← size, ← c.order.ensures.value) c.scale_sides.ensures.sides in
-    let solved = forward-sides (length r) n (entry c.args.f.now) (value_at c.scale_sides.new.left) (forward_side c.args.f.now.order r digits) c.forward.new.y size sides c.in_ok-forward.ensures.solved in
-    let back : IsBackward (length c.forward.new.y) (entry c.args.f.now) (backward_side c.forward.new.y digits) c.backward.new.x = c.in_ok-backward.ensures.solved in
-    let solved_back = subst (λ (m : ℕ). IsBackward m (entry c.args.f.now) (backward_side c.forward.new.y digits) c.backward.new.x) solved.one_each back in
+    let solved = forward-sides (length r) n (factor_entry c.args.f.now) (value_at c.scale_sides.new.left) (forward_side c.args.f.now.order r digits) c.forward.new.y size sides c.in_ok-forward.ensures.solved in
+    let back : IsBackward (length c.forward.new.y) (factor_entry c.args.f.now) (backward_side c.forward.new.y digits) c.backward.new.x = c.in_ok-backward.ensures.solved in
+    let solved_back = subst (λ (m : ℕ). IsBackward m (factor_entry c.args.f.now) (backward_side c.forward.new.y digits) c.backward.new.x) solved.one_each back in
     on_ok_weaker c.move_by.result
     (λ both.
     record {
@@ -77,9 +77,9 @@ returns-clause-breaks c =
     let digits = c.in_ok-digits.digits in
     let size = c.in_ok-middles.ensures.middles.one_each in
     let sides : (j : ℕ) → j < n → value_at c.scale_sides.new.left j ≡ forward_side c.args.f.now.order r digits j = rw (← size, ← c.order.ensures.value) c.scale_sides.ensures.sides in
-    let solved = forward-sides (length r) n (entry c.args.f.now) (value_at c.scale_sides.new.left) (forward_side c.args.f.now.order r digits) c.forward.new.y size sides c.in_ok-forward.ensures.solved in
-    let back : IsBackward (length c.forward.new.y) (entry c.args.f.now) (backward_side c.forward.new.y digits) c.backward.new.x = c.in_ok-backward.ensures.solved in
-    let solved_back = subst (λ (m : ℕ). IsBackward m (entry c.args.f.now) (backward_side c.forward.new.y digits) c.backward.new.x) solved.one_each back in
+    let solved = forward-sides (length r) n (factor_entry c.args.f.now) (value_at c.scale_sides.new.left) (forward_side c.args.f.now.order r digits) c.forward.new.y size sides c.in_ok-forward.ensures.solved in
+    let back : IsBackward (length c.forward.new.y) (factor_entry c.args.f.now) (backward_side c.forward.new.y digits) c.backward.new.x = c.in_ok-backward.ensures.solved in
+    let solved_back = subst (λ (m : ℕ). IsBackward m (factor_entry c.args.f.now) (backward_side c.forward.new.y digits) c.backward.new.x) solved.one_each back in
     on_err_weaker c.move_by.result
     (λ far.
     too_far r digits c.forward.new.y c.backward.new.x c.in_ok-middles.ensures.middles c.in_ok-digits.ensures.scale solved solved_back

@@ -4,7 +4,7 @@ use Rattle.std.proofs.lemmas.List.{get_or_default}
 use Rattle.std.specs.Int.{w64, w128}
 use Rattle.lists.specs.Order.{IsSpread}
 use Rattle.std.proofs.Math.ListN.{length-set}
-use Rattle.factor_data.specs.Columns.{entry, column_rows, column_values}
+use Rattle.factor_data.specs.Columns.{factor_entry, column_rows, column_values}
 use Rattle.solve.specs.Substitution.{at, IsBackwardFrom}
 use Rattle.int_laws.specs.Matrices.{absolute}
 use Rattle.solve.specs.Numerators.{gathered_size}
@@ -45,7 +45,7 @@ returns-in_err-numerator c =
         z = c.loop-j.x;
         position = j;
         inside = omega (arith, c.loop-j.invariant.not_past);
-        solved_after = subst (λ (m : ℕ). IsBackwardFrom n (entry c.args.f.now) (λ k. at c.args.x.now k *ℤ pos (2 ^ c.args.digits)) c.loop-j.x m) next c.loop-j.invariant.solved;
+        solved_after = subst (λ (m : ℕ). IsBackwardFrom n (factor_entry c.args.f.now) (λ k. at c.args.x.now k *ℤ pos (2 ^ c.args.digits)) c.loop-j.x m) next c.loop-j.invariant.solved;
         broad = broad;
       };
     })
@@ -79,12 +79,12 @@ loop-j-preserved c =
     ) at size_here in
     let is = rw (to_z-of_z diagonal_fits, c.get.ensures) at c.quotient.ensures in
     let next : c.loop-j.j ≡ j + 1 = omega arith in
-    let after = subst (λ (m : ℕ). IsBackwardFrom n (entry c.args.f.now) (λ k. at c.args.x.now k *ℤ pos (2 ^ c.args.digits)) c.loop-j.x m) next c.loop-j.invariant.solved in
+    let after = subst (λ (m : ℕ). IsBackwardFrom n (factor_entry c.args.f.now) (λ k. at c.args.x.now k *ℤ pos (2 ^ c.args.digits)) c.loop-j.x m) next c.loop-j.invariant.solved in
     rw (to_z-of_z fits)
     (record {
       one_each = length-set c.loop-j.x j c.quotient.result ∙ c.loop-j.invariant.one_each;
       not_past = omega (arith, c.loop-j.invariant.not_past);
       untouched = λ k below. at-set_other c.loop-j.x j k c.quotient.result (λ e. absurd (omega arith)) ∙ c.loop-j.invariant.untouched k (omega arith);
-      solved = backward-step n (entry c.args.f.now) (λ k. at c.args.x.now k *ℤ pos (2 ^ c.args.digits)) c.loop-j.x j c.quotient.result c.in_ok-numerator.numerator.value c.in_ok-numerator.numerator.size
+      solved = backward-step n (factor_entry c.args.f.now) (λ k. at c.args.x.now k *ℤ pos (2 ^ c.args.digits)) c.loop-j.x j c.quotient.result c.in_ok-numerator.numerator.value c.in_ok-numerator.numerator.size
           (omega (arith, c.loop-j.invariant.not_past)) c.loop-j.invariant.one_each after c.in_ok-numerator.numerator.narrow value size is;
     })

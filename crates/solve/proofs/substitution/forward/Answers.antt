@@ -4,7 +4,7 @@ use Rattle.std.proofs.lemmas.List.{get_or_read_under, get_or_default}
 use Rattle.std.specs.Int.{w64, w128}
 use Rattle.int_laws.specs.Division.{nearest_of}
 use Rattle.lists.specs.Order.{IsSpread}
-use Rattle.factor_data.specs.Columns.{entry, column_rows, column_values}
+use Rattle.factor_data.specs.Columns.{factor_entry, column_rows, column_values}
 use Rattle.flex_num.specs.Guarded.{zero_sum, value_at}
 use Rattle.solve.proofs.Entries.{column-spread}
 use Rattle.solve.proofs.Solving.{forward-step, forward-breaks}
@@ -26,12 +26,12 @@ returns-in_err-scatter c =
     let diagonal_fits : FitsSigned w64 c.get.result = search rules in
     let inside : j < length c.loop-j.left = omega (arith, c.loop-j.invariant.one_numerator_each) in
     let left_is = get_or_read_under c.loop-j.left j _ c.index-left-j.result zero_sum c.index-left-j.is inside refl in
-    let is : c.quotient-unknown.result ≡ nearest_of (value_at c.loop-j.left j) (entry c.args.f.now j j) =
+    let is : c.quotient-unknown.result ≡ nearest_of (value_at c.loop-j.left j) (factor_entry c.args.f.now j j) =
     rw (to_z-of_z diagonal_fits, c.get.ensures, left_is) at c.quotient-unknown.ensures in
     let beyond = rw (to_z-of_z fits, c.column.ensures.rows, c.column.ensures.values) at c.in_err-scatter.ensures.beyond in
     rw p.1 (record {
       solved = tt;
-      broad = forward-breaks n (entry c.args.f.now) (value_at c.args.left.now) c.loop-j.left c.loop-j.y j c.quotient-unknown.result (column_rows c.args.f.now j) (column_values c.args.f.now j)
+      broad = forward-breaks n (factor_entry c.args.f.now) (value_at c.args.left.now) c.loop-j.left c.loop-j.y j c.quotient-unknown.result (column_rows c.args.f.now j) (column_values c.args.f.now j)
           (omega arith) c.loop-j.invariant is (column-spread c.args.f.now n j c.column.ensures.kept c.requires.factor) (λ i. refl) beyond;
     })
 
@@ -43,9 +43,9 @@ loop-j-preserved c =
     let diagonal_fits : FitsSigned w64 c.get.result = search rules in
     let inside : j < length c.loop-j.left = omega (arith, c.loop-j.invariant.one_numerator_each) in
     let left_is = get_or_read_under c.loop-j.left j _ c.index-left-j.result zero_sum c.index-left-j.is inside refl in
-    let is : c.quotient-unknown.result ≡ nearest_of (value_at c.loop-j.left j) (entry c.args.f.now j j) =
+    let is : c.quotient-unknown.result ≡ nearest_of (value_at c.loop-j.left j) (factor_entry c.args.f.now j j) =
     rw (to_z-of_z diagonal_fits, c.get.ensures, left_is) at c.quotient-unknown.ensures in
     let takes = rw (to_z-of_z fits, c.column.ensures.rows, c.column.ensures.values) at c.in_ok-scatter.ensures.taken in
     rw (to_z-of_z fits)
-    (forward-step n (entry c.args.f.now) (value_at c.args.left.now) c.loop-j.left c.scatter.new.left c.loop-j.y j c.quotient-unknown.result (column_rows c.args.f.now j) (column_values c.args.f.now j)
+    (forward-step n (factor_entry c.args.f.now) (value_at c.args.left.now) c.loop-j.left c.scatter.new.left c.loop-j.y j c.quotient-unknown.result (column_rows c.args.f.now j) (column_values c.args.f.now j)
     (omega arith) c.loop-j.invariant is (column-spread c.args.f.now n j c.column.ensures.kept c.requires.factor) (λ i. refl) takes)

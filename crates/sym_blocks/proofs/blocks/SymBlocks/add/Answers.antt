@@ -6,15 +6,15 @@ use Rattle.std.specs.Vec.{with_items}
 use Rattle.std.proofs.lemmas.List.{with_items_is}
 use Rattle.std.proofs.lemmas.Int.{to_z-of_z}
 use Rattle.sym_blocks.specs.Matrix.{Matrix, entry, pattern_of, AddsAt}
-use Rattle.sym_blocks.specs.Storage.{matrix_of}
-use Rattle.sym_blocks.proofs.StorageLemmas.{entry-matrix_of}
-use Rattle.sym_blocks.proofs.AddLemmas.{AddsAt-matrix_of}
+use Rattle.sym_blocks.specs.Storage.{stored_matrix}
+use Rattle.sym_blocks.proofs.StorageLemmas.{entry-stored_matrix}
+use Rattle.sym_blocks.proofs.AddLemmas.{AddsAt-stored_matrix}
 use Rattle.sym_blocks.proofs.blocks.SymBlocks.add.Goals as goal
 
 pub add_both-requires : goal.add_both-requires
 add_both-requires c =
     let s = c.self.inside in
-    let at = entry-matrix_of (contents s.neighbours.items) (contents s.blocks.items) c.self.invariant.layout c.args.row c.args.col in
+    let at = entry-stored_matrix (contents s.neighbours.items) (contents s.blocks.items) c.self.invariant.layout c.args.row c.args.col in
     rw (c.deref.ensures.value, c.deref_mut.ensures.value, to_z-of_z w128 c.args.v c.ranges.v)
     record {
       storage = c.self.invariant;
@@ -34,5 +34,5 @@ returns c =
     let s = c.self.inside in
     let added = rw (c.deref.ensures.value, c.deref_mut.ensures.value, to_z-of_z w128 c.args.v c.ranges.v) at c.add_both.ensures.added in
     let storage = rw c.deref.ensures.value at c.add_both.ensures.storage in
-    let P : Matrix → Type 0 = λ m. AddsAt m (matrix_of (contents s.neighbours.items) (contents (with_items s.blocks c.add_both.new.blocks).items)) c.args.row c.args.col c.args.v in
-    subst P c.self.view_is (rw (blocks_after c) (AddsAt-matrix_of _ _ _ c.args.row c.args.col c.args.v c.self.invariant.layout storage.layout added))
+    let P : Matrix → Type 0 = λ m. AddsAt m (stored_matrix (contents s.neighbours.items) (contents (with_items s.blocks c.add_both.new.blocks).items)) c.args.row c.args.col c.args.v in
+    subst P c.self.view_is (rw (blocks_after c) (AddsAt-stored_matrix _ _ _ c.args.row c.args.col c.args.v c.self.invariant.layout storage.layout added))

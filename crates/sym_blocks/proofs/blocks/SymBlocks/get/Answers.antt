@@ -4,7 +4,7 @@ use Rattle.std.specs.Int.{w128}
 use Rattle.std.proofs.lemmas.Int.{to_z-of_z}
 use Rattle.sym_blocks.specs.Storage.{stored}
 use Rattle.sym_blocks.specs.Matrix.{Matrix, entry, pattern_of}
-use Rattle.sym_blocks.proofs.StorageLemmas.{entry-matrix_of}
+use Rattle.sym_blocks.proofs.StorageLemmas.{entry-stored_matrix}
 use Rattle.sym_blocks.proofs.AddLemmas.{entry_read, fits_small}
 use Rattle.sym_blocks.proofs.blocks.SymBlocks.get.Goals as goal
 
@@ -24,7 +24,7 @@ returns-in-Some c =
       value =
           ap (λ z. to_z w128 (of_z w128 z)) e.value
           ∙ to_z-of_z w128 old (fits_small old (layout.small c.args.row c.args.col))
-          ∙ sym (entry-matrix_of lists blocks layout c.args.row c.args.col)
+          ∙ sym (entry-stored_matrix lists blocks layout c.args.row c.args.col)
           ∙ ap (λ (m : Matrix). entry m c.args.row c.args.col) c.self.view_is;
     }
 

@@ -3,7 +3,7 @@ use Rattle.std.specs.Int.{w128}
 use Rattle.std.proofs.Math.Seq.{get_or-append_seam}
 use Rattle.std.proofs.lemmas.List.{get_or_append_left}
 use Rattle.factor.specs.State.{matrix_of}
-use Rattle.factor.proofs.load.load.Goals as goal
+use Rattle.factor.proofs.scatter.scatter.Goals as goal
 
 -- one number more, at the end
 pushed : (xs ys : List ℤ) (x : ℤ) (n : ℕ) (f : ℕ → ℤ) → length xs ≡ n → ys ≡ xs ++ x ∷ [] → x ≡ f n → ((s : ℕ) → s < n → get_or xs s (pos 0) ≡ f s) →

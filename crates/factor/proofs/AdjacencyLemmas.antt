@@ -20,8 +20,8 @@ parent_bounds parents size n u later in' is =
     subst P is (later n in')
 
 -- the places of a node's neighbours
-pub near_front : (k : Matrix) (order : List ℕ) (parents : List (Option ℕ)) (shift : ℤ) (n : ℕ) (start found nodes : List ℕ) → IsProblem k order parents shift → n < length order → IsSymmetricByBlocks k → IsWithParent parents n start → found ≡ map (λ m. place_of m order) (pattern_of k (get_or order n 0)) → InsertsLater start nodes found n → IsFront k order parents [] [] n nodes
-near_front k order parents shift n start found nodes p in' kept with is inserted =
+pub adjacency_front : (k : Matrix) (order : List ℕ) (parents : List (Option ℕ)) (shift : ℤ) (n : ℕ) (start found nodes : List ℕ) → IsProblem k order parents shift → n < length order → IsSymmetricByBlocks k → IsWithParent parents n start → found ≡ map (λ m. place_of m order) (pattern_of k (get_or order n 0)) → InsertsLater start nodes found n → IsFront k order parents [] [] n nodes
+adjacency_front k order parents shift n start found nodes p in' kept with is inserted =
     let size = length order in
     let pattern = pattern_of k (get_or order n 0) in
     let place = λ (m : ℕ). place_of m order in
@@ -65,13 +65,13 @@ near_front k order parents shift n start found nodes p in' kept with is inserted
       kept = kept;
     }
 
--- users, one after another
+-- the nodes of a row pattern, one after another
 pub front_start : (k : Matrix) (order : List ℕ) (parents : List (Option ℕ)) (panels : List Panel) (n : ℕ) (nodes : List ℕ) → IsFront k order parents [] [] n nodes → IsFront k order parents panels [] n nodes
 front_start k order parents panels n nodes f =
     record { rising = f.rising; from_own = f.from_own; own = f.own; parent = f.parent; matrix = f.matrix; reached = λ d q (v, vl, at) above h. absurd (omega arith); kept = f.kept }
 
-pub front_more : (k : Matrix) (order : List ℕ) (parents : List (Option ℕ)) (panels : List Panel) (users : List ℕ) (n d : ℕ) (old new : List ℕ) → IsFront k order parents panels users n old → InsertsLater old new (nodes_at panels d) n → ((x : ℕ) → Contains (nodes_at panels d) x → x < length order) → IsFront k order parents panels (users ++ d ∷ []) n new
-front_more k order parents panels users n d old new f inserted within =
+pub front_more : (k : Matrix) (order : List ℕ) (parents : List (Option ℕ)) (panels : List Panel) (row_pattern : List ℕ) (n d : ℕ) (old new : List ℕ) → IsFront k order parents panels row_pattern n old → InsertsLater old new (nodes_at panels d) n → ((x : ℕ) → Contains (nodes_at panels d) x → x < length order) → IsFront k order parents panels (row_pattern ++ d ∷ []) n new
+front_more k order parents panels row_pattern n d old new f inserted within =
     let keep = λ (x : ℕ) (h : Contains old x). (inserted.members x).1 (inl h) in
     record {
       rising = inserted.rising;
@@ -83,8 +83,8 @@ front_more k order parents panels users n d old new f inserted within =
       own = keep n f.own;
       parent = λ u h. keep u (f.parent u h);
       matrix = λ q above q-in h. keep q (f.matrix q above q-in h);
-      reached = λ e q user above h.
-          elim (Contains-push_cases users d e user) [
+      reached = λ e q earlier above h.
+          elim (Contains-push_cases row_pattern d e earlier) [
             | inl before ↦ keep q (f.reached e q before above h)
             | inr same ↦
                 (let P : ℕ → Type 0 = λ x. Contains (nodes_at panels x) q in

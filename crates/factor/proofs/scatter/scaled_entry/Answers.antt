@@ -5,17 +5,17 @@ use Rattle.std.proofs.lemmas.List.{get_or_default}
 use Rattle.std.proofs.lemmas.Bool.{eq-eqb, ne_eqb}
 use Rattle.int_laws.proofs.Sums.{int_sums}
 use Rattle.sym_blocks.specs.Matrix.{entry}
-use Rattle.cholesky_laws.specs.Recurrence.{scaled}
+use Rattle.cholesky_laws.specs.Recurrence.{scaled_stiffness}
 use Rattle.lists.specs.Rows.{freedom_at}
 use Rattle.factor.proofs.CastLemmas.{scaled_less, scaled_whole}
-use Rattle.factor.proofs.load.scaled_entry.Goals as goal
+use Rattle.factor.proofs.scatter.scaled_entry.Goals as goal
 
 -- an entry that is read at the freedoms of two positions
 entry_read : {z : ℤ} {row column : ℕ} (km : ℕ → ℕ → ℤ) (order : List ℕ) (i j : ℕ) → z ≡ km row column → row ≡ freedom_at order i → column ≡ freedom_at order j → z ≡ km (freedom_at order i) (freedom_at order j)
 entry_read km order i j read at_row at_column = cc
 
 pub returns-then-i-j : goal.returns-then-i-j
-unfolding scaled
+unfolding scaled_stiffness
 returns-then-i-j c =
     let p = c.args.problem.now in
     let km = entry p.matrix.now in
@@ -28,7 +28,7 @@ returns-then-i-j c =
     ∙ ap (λ t. pos (2 ^ 52) *ℤ (km (freedom_at p.order.now i) (freedom_at p.order.now j) -ℤ cond t p.shift (pos 0))) (sym (eq-eqb i j c.if-i-j.true))
 
 pub returns-else-i-j : goal.returns-else-i-j
-unfolding scaled
+unfolding scaled_stiffness
 returns-else-i-j c =
     let p = c.args.problem.now in
     let km = entry p.matrix.now in

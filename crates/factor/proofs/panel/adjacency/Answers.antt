@@ -1,9 +1,9 @@
 use Rattle.std.proofs.Common.{ℕ, ◌<◌, ◌∙◌, ap, sym, subst, arith, List, length, get_or, map}
 use Rattle.std.proofs.lemmas.List.Elements.{Contains-get_or}
 use Rattle.lists.specs.Order.{place_of}
-use Rattle.factor.proofs.NearLemmas.{near_front}
+use Rattle.factor.proofs.AdjacencyLemmas.{adjacency_front}
 use Rattle.sym_blocks.specs.Matrix.{pattern_of}
-use Rattle.factor.proofs.panel.near.Goals as goal
+use Rattle.factor.proofs.panel.adjacency.Goals as goal
 
 pub places_of-requires : goal.places_of-requires
 places_of-requires c k d lt =
@@ -19,5 +19,5 @@ returns c =
     let p = c.args.problem.now in
     let found = c.deref.ensures.value ∙ c.in_ok-places_of.ensures
     ∙ ap (λ (xs : List ℕ). map (λ m. place_of m p.order.now) xs) (c.pattern-neighbours.ensures.value ∙ ap (pattern_of p.matrix.now) c.number_at.ensures) in
-    near_front p.matrix.now p.order.now p.parents.now p.shift c.args.node c.in_ok-nodes.nodes.items c.deref.result.now c.insert_later.new.list.items
+    adjacency_front p.matrix.now p.order.now p.parents.now p.shift c.args.node c.in_ok-nodes.nodes.items c.deref.result.now c.insert_later.new.list.items
     c.requires.problem c.requires.node_in c.pattern-neighbours.ensures.kept c.in_ok-nodes.ensures found c.in_ok-insert_later.ensures

@@ -8,8 +8,9 @@ use Rattle.std.specs.Int.{IsIsqrt}
 use Rattle.std.specs.Ordering.{int_eq}
 use Rattle.int_laws.specs.Powers.{power}
 use Rattle.int_laws.proofs.Sums.{int_sums}
+use Rattle.int_laws.proofs.Products.{square_large}
 use Rattle.int_laws.proofs.Powers.{power-pos, power_le, power_less}
-use Rattle.flex_num.specs.Root.{IsRoot, IsRootUp, stepped, root_within, rounded_up, root_of, root_up_of, cube_root_of, cube_root_up_of}
+use Rattle.int_laws.specs.Root.{IsRoot, IsRootUp, stepped, root_within, rounded_up, root_of, root_up_of, cube_root_of, cube_root_up_of}
 
 -- r is the p-th root of n among naturals
 record IsNatRoot (p n r : ℕ) : Type 0 where
@@ -127,3 +128,13 @@ root_up_at n r low high = root_up_unique (root_up_of-is (pos n) (omega (arith, i
   at_least = omega (arith, ints);
   least = λ k h enough. by_lt_z k (pos (r + 1)) (λ less. let under = power_le 1 k (pos r) h (omega (arith, ints)) in absurd (omega (arith, ints))) (λ rest. rest);
 })
+
+-- the root of a number from 1 to 2^114 is at least 1 and below 2^57
+pub root_bounds : (p : ℤ) → pos 1 ≤ℤ p → p <ℤ pos (2 ^ 114) → (pos 1 ≤ℤ root_of p) × (root_of p <ℤ pos (2 ^ 57))
+root_bounds p positive small =
+    let r = root_of-is p (omega (arith, int_sums)) in
+    let square = r.at_most in (
+      r.greatest (pos 1) (omega (arith, int_sums)),
+      by_lt_z (root_of p) (pos (2 ^ 57)) (λ below. below)
+          (λ above. let large = square_large (root_of p) (omega (arith, int_sums)) in absurd (omega (arith, int_sums))),
+    )

@@ -2,7 +2,7 @@ ghost use Rattle.std.specs.Prelude.{◌≡◌, ℕ, ◌+◌, ◌*◌, ◌/◌, �
 ghost use Rattle.std.specs.Int.RustNames.{unsigned_abs};
 ghost use Rattle.lists.specs.Rows.{freedom_at};
 ghost use Rattle.factor.specs.State.{IsProblem, matrix_of};
-ghost use Rattle.factor.specs.Front.{IsLoaded};
+ghost use Rattle.factor.specs.Front.{IsScattered};
 
 use lists::Permutation;
 use std::alloc::{AllocError, Global};
@@ -21,7 +21,7 @@ pub struct Problem<'a> {
 const SCALE: i128 = 1 << 52;
 
 // The entries of a node's columns for some nodes, six by six.
-pub fn load(
+pub fn scatter(
     alloc: Global,
     problem: &Problem,
     nodes: &[u32],
@@ -31,7 +31,7 @@ pub fn load(
     requires nodes_in { All (λ q. q < length problem.now.order.now) nodes.now }
     requires few { length nodes.now ≤ 8000 }
     requires node_in { node < length problem.now.order.now }
-    ensures { IfOk result (λ work. IsLoaded (matrix_of problem.now.matrix.now problem.now.order.now problem.now.shift) nodes.now node work.items) }
+    ensures { IfOk result (λ work. IsScattered (matrix_of problem.now.matrix.now problem.now.order.now problem.now.shift) nodes.now node work.items) }
 {
     let mut work = Vec::with_capacity(alloc, 36 * nodes.len())?;
     for s in 0..36 * nodes.len() {

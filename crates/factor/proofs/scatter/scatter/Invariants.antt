@@ -1,6 +1,6 @@
 use Rattle.std.proofs.Common.{◌≡◌, ℕ, ◌+◌, ◌*◌, ◌/◌, ◌%◌, ◌<◌, length, get_or, pos}
 use Rattle.factor.specs.State.{matrix_of}
-use Rattle.factor.proofs.load.load.Given as goal
+use Rattle.factor.proofs.scatter.scatter.Given as goal
 
 abbrev pub invariant-loop-s : goal.invariant-loop-s
 invariant-loop-s l =
