@@ -10,8 +10,8 @@ use Rattle.int_laws.specs.Division.{nearest_of}
 use Rattle.int_laws.specs.Root.{root_of}
 use Rattle.cholesky_laws.specs.Recurrence.{cholesky, left_after, pivot}
 use Rattle.cholesky_laws.proofs.RecurrenceLemmas.{cholesky-above, cholesky-diagonal, cholesky-below}
-use Rattle.cholesky_laws.proofs.BoundLemmas.{pivot_after_large, root_bounds, pivot-le}
-use Rattle.int_laws.proofs.RootLemmas.{root_of-is}
+use Rattle.cholesky_laws.proofs.BoundLemmas.{pivot_after_large, pivot-le}
+use Rattle.int_laws.proofs.RootLemmas.{root_of-is, root_bounds}
 use Rattle.factor.specs.Panel.{by_rows, left_in_row}
 use Rattle.factor.specs.Eliminate.{IsEliminatedTo}
 use Rattle.factor.proofs.CastLemmas.{narrow_is}
