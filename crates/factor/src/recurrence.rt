@@ -11,8 +11,8 @@ ghost use Rattle.lists.specs.Lists.{ListsInAll};
 ghost use Rattle.factor.specs.Scalar.{IsFactorOf, IsBreakdown};
 
 use crate::fault::ScalarFault;
-use crate::scatter::Problem;
 use crate::panel::{Panel, eliminate_node};
+use crate::scatter::Problem;
 use factor_data::Factor;
 use lists::{Permutation, empty_lists, list_in_all};
 use std::alloc::{AllocError, Global};

@@ -53,7 +53,11 @@ fn reach_term(m: &Member, u: &[i128], place: usize) -> Result<Iv, IvFault>
     ensures within { IfOk result (λ e. (q shape : ℤ) → pos 0 <ℤ q → Within (slice_index_or m.now.w place nothing) (fraction shape q) →
         Within e (reach_fraction q (shape *ℤ displaced q u.now (touched_row m.now place)))) }
 {
-    flex_interval::mul(m.w[place], flex_interval::point(u[touched_row(m, place)]), 56)
+    flex_interval::mul(
+        m.w[place],
+        flex_interval::point(u[touched_row(m, place)]),
+        56,
+    )
 }
 
 /// The force of a member with a reach, in units of 2^-40 N or N m.
