@@ -1,3 +1,4 @@
+pub mod Polynomials
 pub mod Modes
 pub mod ArcReadings
 pub mod ArcWork
