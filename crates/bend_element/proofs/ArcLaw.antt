@@ -1,4 +1,4 @@
--- The members of a bend are its arc.
+-- The patterns of load along an arc work apart, each by the flexibility of its member.
 use Rattle.std.proofs.Common.{◌≡◌, ◌≢◌, ◌*◌, ◌^◌, List, [], ◌∷◌, refl, ap, sym, ◌∙◌, arith, true, ℤ, pos, ◌+ℤ◌, ◌*ℤ◌, neg_ℤ, ◌<ℤ◌, ◌-ℤ◌}
 use Rattle.std.proofs.lemmas.Int.{ints}
 use Rattle.int_laws.proofs.Sums.{int_sums}
@@ -8,7 +8,7 @@ use Rattle.member_pairs.specs.Tubes.{divisor_of}
 use Rattle.member_pairs.specs.declared.tube.Tube.{Tube}
 use Rattle.bend_element.specs.Arcs.{ExactArc}
 use Rattle.bend_element.specs.ExactBend.{Mode, plane_rotation, radius_moment, chord_moment, chord_force, normal_force, chord_flexibility, normal_flexibility, offset_flexibility, spread, radius_square, sine_square, cosine_square, twist, gyration_square, flexibility, rotation_flexibility, radius_moment_flexibility, chord_moment_flexibility, twisted_sine, radial_flexibility, bending_square, radial_force, centre, plane_centre, normal_centre}
-use Rattle.bend_element.specs.Arc.{nil, radius, reach, plane_reach, normal_reach, pattern, work, AreSame, IsDivisible, PatternsWorkApart}
+use Rattle.bend_element.specs.Arc.{nil, unit, radius, reach, plane_reach, normal_reach, pattern, work, AreSame, IsDivisible, PatternsWorkApart}
 use Rattle.bend_element.proofs.ArcReadings.{Reads, reads_whole, reads_at, reads_same, reads_scaled, reads_times, reads_plus, reads_over, reads_minus}
 use Rattle.bend_element.specs.EndLoads.{half_chord, chord_distance}
 use Rattle.bend_element.proofs.ArcWork.{cube, Numbers, AreRead, Balance, at, numerators, sum, fourth, nil_reads, work_reads, no_work, doubled, by_balance, softness, plane_excess, normal_excess, twice, none, with_excesses, vE, vR, vH, vF, vA, vS, vC, vM, vK, vT, vG, vD, vU}
@@ -18,8 +18,8 @@ use Rattle.bend_element.proofs.Polynomials.{Polynomial, variable, opposite, adde
 -- ---- one denominator for all
 
 pub record Over (x : Fraction) (d : ℤ) : Type 0 where
-  num : ℤ
-  reads : Reads x num d
+  pub num : ℤ
+  pub reads : Reads x num d
 
 wider : {x : Fraction} {d : ℤ} (q : ℤ) → pos 0 <ℤ q → Over x d → Over x (d *ℤ q)
 wider {x} {d} q h o = record {
@@ -36,11 +36,11 @@ each_wider [] d q h o = wider q h o
 each_wider (x ∷ xs) d q h o = (wider q h o.0, each_wider xs d q h o.1)
 
 pub record Common (xs : List Fraction) : Type 0 where
-  d : ℤ
-  positive : pos 0 <ℤ d
-  each : Each xs d
+  pub d : ℤ
+  pub positive : pos 0 <ℤ d
+  pub each : Each xs d
 
-alone : Common []
+pub alone : Common []
 alone = record { d = pos 1; positive = omega (arith, ints); each = record { num = pos 0; reads = reads_whole (pos 0) } }
 
 pub joined : {x : Fraction} {n q : ℤ} {xs : List Fraction} → Reads x n q → Common xs → Common (x ∷ xs)
@@ -52,7 +52,7 @@ joined {x} {n} {q} {xs} h c =
       each = (record { num = n *ℤ c.d; reads = reads_at (n *ℤ c.d) (c.d *ℤ q) h both (sym (mul_assoc n c.d q)) }, each_wider xs c.d q h.positive c.each);
     }
 
-itself : (x : Fraction) → pos 0 <ℤ x.den → Reads x x.num x.den
+pub itself : (x : Fraction) → pos 0 <ℤ x.den → Reads x x.num x.den
 itself x h = record { defined = h; positive = h; same = refl }
 
 radius_reads : (x : ExactArc) → Reads (radius x) (x.radius *ℤ pos (2 ^ 56)) (pos 1 *ℤ pos (10 ^ 6))
@@ -82,15 +82,15 @@ reach_balance r u q v d h z positive is same =
     ∙ sym (mul_assoc r u ((d *ℤ q) *ℤ pos (2 ^ 56))) ∙ ap (λ (y : ℤ). (r *ℤ u) *ℤ y) (sym is) in
     same_of_mul z (h *ℤ v) (r *ℤ u) positive (left ∙ same ∙ right)
 
-plus_defined : (x y : Fraction) → pos 0 <ℤ x.den → pos 0 <ℤ y.den → pos 0 <ℤ (plus x y).den
+pub plus_defined : (x y : Fraction) → pos 0 <ℤ x.den → pos 0 <ℤ y.den → pos 0 <ℤ (plus x y).den
 unfolding plus
 plus_defined x y a b = mul_positive x.den y.den a b
 
-negated_defined : (x : Fraction) → pos 0 <ℤ x.den → pos 0 <ℤ (negated x).den
+pub negated_defined : (x : Fraction) → pos 0 <ℤ x.den → pos 0 <ℤ (negated x).den
 unfolding negated
 negated_defined x a = a
 
-times_defined : (x y : Fraction) → pos 0 <ℤ x.den → pos 0 <ℤ y.den → pos 0 <ℤ (times x y 56).den
+pub times_defined : (x y : Fraction) → pos 0 <ℤ x.den → pos 0 <ℤ y.den → pos 0 <ℤ (times x y 56).den
 times_defined x y a b = (reads_times 56 (itself x a) (itself y b)).defined
 
 cosine_square_defined : {tube : Tube} {x : ExactArc} → IsDivisible tube x → pos 0 <ℤ (cosine_square x).den
@@ -127,10 +127,10 @@ normal_reach_defined {tube} {x} h =
     (reads_over 56 (doubled (reads_times 56 (twist_reads tube) (itself x.sin h.sin_defined))) (itself (chord_moment_flexibility tube x) (chord_moment_defined h)) h.soft h.soft).defined
 
 -- what the patterns are made of
-abbrev parts : Tube → ExactArc → List Fraction
+abbrev pub parts : Tube → ExactArc → List Fraction
 parts tube x = x.a ∷ x.sin ∷ x.k ∷ cosine_square x ∷ sine_square x ∷ twist tube ∷ gyration_square tube ∷ radius x ∷ plane_reach x ∷ normal_reach tube x ∷ half_chord x ∷ chord_distance x ∷ []
 
-parts_read : {tube : Tube} {x : ExactArc} → IsDivisible tube x → Common (parts tube x)
+pub parts_read : {tube : Tube} {x : ExactArc} → IsDivisible tube x → Common (parts tube x)
 parts_read {tube} {x} h =
     joined (itself x.a h.a_defined) (joined (itself x.sin h.sin_defined) (joined (itself x.k h.k_defined)
     (joined (itself (cosine_square x) (cosine_square_defined h)) (joined (itself (sine_square x) (sine_square_defined h))
@@ -138,7 +138,7 @@ parts_read {tube} {x} h =
     (joined (itself (plane_reach x) (plane_reach_defined h)) (joined (itself (normal_reach tube x) (normal_reach_defined h))
     (joined (reads_times 56 (radius_reads x) (itself x.sin h.sin_defined)) (joined (reads_times 56 (radius_reads x) (itself x.cos h.cos_defined)) alone)))))))))))
 
-abbrev numbers : (tube : Tube) (x : ExactArc) → Common (parts tube x) → Numbers
+abbrev pub numbers : (tube : Tube) (x : ExactArc) → Common (parts tube x) → Numbers
 numbers tube x c = record {
   e = c.d *ℤ pos (2 ^ 56);
   a = c.each.0.num;
@@ -155,11 +155,14 @@ numbers tube x c = record {
   q = c.each.1.1.1.1.1.1.1.1.1.1.1.0.num;
 }
 
-numbers_read : (tube : Tube) (x : ExactArc) (c : Common (parts tube x)) → AreRead tube x (numbers tube x c) c.d
+pub unit_reads : (d : ℤ) → pos 0 <ℤ d → Reads unit (d *ℤ pos (2 ^ 56)) d
+unit_reads d h = reads_at (d *ℤ pos (2 ^ 56)) d (reads_whole (pos (2 ^ 56))) h (mul_comm (pos (2 ^ 56)) d ∙ sym (mul_comm (d *ℤ pos (2 ^ 56)) (pos 1) ∙ one-mul (d *ℤ pos (2 ^ 56))))
+
+pub numbers_read : (tube : Tube) (x : ExactArc) (c : Common (parts tube x)) → AreRead tube x (numbers tube x c) c.d
 numbers_read tube x c = record {
   positive = c.positive;
   one = refl;
-  e = reads_at (c.d *ℤ pos (2 ^ 56)) c.d (reads_whole (pos (2 ^ 56))) c.positive (mul_comm (pos (2 ^ 56)) c.d ∙ sym (mul_comm (c.d *ℤ pos (2 ^ 56)) (pos 1) ∙ one-mul (c.d *ℤ pos (2 ^ 56))));
+  e = unit_reads c.d c.positive;
   a = c.each.0.reads;
   s = c.each.1.0.reads;
   k = c.each.1.1.0.reads;
@@ -176,7 +179,7 @@ numbers_read tube x c = record {
 
 -- ---- the reaches
 
-abbrev square : ℤ → ℤ
+abbrev pub square : ℤ → ℤ
 square d = (d *ℤ d) *ℤ pos (2 ^ 56)
 
 chord_moment_reads : {tube : Tube} {x : ExactArc} {n : Numbers} {d : ℤ} → AreRead tube x n d → Reads (chord_moment_flexibility tube x) ((n.k *ℤ n.m) +ℤ (n.t *ℤ n.c)) (square d)
@@ -198,7 +201,7 @@ normal_balance {tube} {x} {n} {d} h b =
 
 -- ---- each by its own
 
-balanced : {tube : Tube} {x : ExactArc} {n : Numbers} {d : ℤ} → IsDivisible tube x → AreRead tube x n d → Balance n d
+pub balanced : {tube : Tube} {x : ExactArc} {n : Numbers} {d : ℤ} → IsDivisible tube x → AreRead tube x n d → Balance n d
 balanced {tube} {x} {n} {d} h b =
     let plane : n.h *ℤ n.a ≡ n.r *ℤ n.s = plane_balance h b in
     let normal : n.f *ℤ ((n.k *ℤ n.m) +ℤ (n.t *ℤ n.c)) ≡ n.r *ℤ ((n.t *ℤ n.s) *ℤ pos 2) = normal_balance h b in
@@ -216,13 +219,13 @@ fourth_positive {d} h = mul_positive (d *ℤ cube d) (pos (2 ^ 56)) (mul_positiv
 abbrev pub Gives : Tube → ExactArc → Numbers → ℤ → Mode → Type 0
 Gives tube x n d m = Reads (flexibility tube x m) (value (at n d) (sum (numerators m) (numerators m))) (fourth d)
 
-abbrev squared : Polynomial
+abbrev pub squared : Polynomial
 squared = multiplied (multiplied vD vD) vU
 
 abbrev cubed : Polynomial
 cubed = multiplied (multiplied squared vD) vU
 
-abbrev to_fourth : Polynomial
+abbrev pub to_fourth : Polynomial
 to_fourth = multiplied (multiplied vD cubed) vU
 
 -- from a reading of the flexibility over another denominator
@@ -358,11 +361,32 @@ centre_law x u v cos_defined defined =
     ∙ sym (mul_assoc (d *ℤ x.radius) w (q *ℤ m)) ∙ ap (λ (z : ℤ). z *ℤ (q *ℤ m)) (mul_assoc d x.radius w ∙ mul_comm d (x.radius *ℤ w) ∙ mul-sub (x.radius *ℤ w) first second)))
     right
 
-plane_law : {tube : Tube} {x : ExactArc} → IsDivisible tube x → AreSame (plane_centre x) (minus (plane_reach x) (times (radius x) x.cos 56))
+centre_defined : (x : ExactArc) (u v : Fraction) → pos 0 <ℤ x.cos.den → pos 0 <ℤ (over u v 56).den → pos 0 <ℤ (centre x u v).den
+unfolding centre minus
+centre_defined x u v cos_defined defined =
+    (reads_scaled x.radius (pos (10 ^ 6)) (omega (arith, ints)) (itself (plus (over u v 56) (negated x.cos)) (plus_defined (over u v 56) (negated x.cos) defined (negated_defined x.cos cos_defined)))).defined
+
+sine_over : {tube : Tube} {x : ExactArc} → IsDivisible tube x → pos 0 <ℤ (over x.sin x.a 56).den
+sine_over {tube} {x} h = (reads_over 56 (itself x.sin h.sin_defined) (itself x.a h.a_defined) h.angle h.angle).defined
+
+twisted_over : {tube : Tube} {x : ExactArc} → IsDivisible tube x → pos 0 <ℤ (over (scaled (twisted_sine tube x) (pos 2) (pos 1)) (chord_moment_flexibility tube x) 56).den
+unfolding twisted_sine
+twisted_over {tube} {x} h =
+    (reads_over 56 (doubled (reads_times 56 (twist_reads tube) (itself x.sin h.sin_defined))) (itself (chord_moment_flexibility tube x) (chord_moment_defined h)) h.soft h.soft).defined
+
+pub plane_centre_defined : {tube : Tube} {x : ExactArc} → IsDivisible tube x → pos 0 <ℤ (plane_centre x).den
+unfolding plane_centre
+plane_centre_defined {tube} {x} h = centre_defined x x.sin x.a h.cos_defined (sine_over h)
+
+pub normal_centre_defined : {tube : Tube} {x : ExactArc} → IsDivisible tube x → pos 0 <ℤ (normal_centre tube x).den
+unfolding normal_centre
+normal_centre_defined {tube} {x} h = centre_defined x (scaled (twisted_sine tube x) (pos 2) (pos 1)) (chord_moment_flexibility tube x) h.cos_defined (twisted_over h)
+
+pub plane_law : {tube : Tube} {x : ExactArc} → IsDivisible tube x → AreSame (plane_centre x) (minus (plane_reach x) (times (radius x) x.cos 56))
 unfolding plane_centre plane_reach
 plane_law {tube} {x} h = centre_law x x.sin x.a h.cos_defined (reads_over 56 (itself x.sin h.sin_defined) (itself x.a h.a_defined) h.angle h.angle).defined
 
-normal_law : {tube : Tube} {x : ExactArc} → IsDivisible tube x → AreSame (normal_centre tube x) (minus (normal_reach tube x) (times (radius x) x.cos 56))
+pub normal_law : {tube : Tube} {x : ExactArc} → IsDivisible tube x → AreSame (normal_centre tube x) (minus (normal_reach tube x) (times (radius x) x.cos 56))
 unfolding normal_centre normal_reach twisted_sine
 normal_law {tube} {x} h =
     centre_law x (scaled (times (twist tube) x.sin 56) (pos 2) (pos 1)) (chord_moment_flexibility tube x) h.cos_defined
@@ -374,8 +398,8 @@ apart_read {tube} {x} {n} {d} h b i j apart =
     let nothing = no_work (balanced h b) i j apart in
     reads_same (reads_at (pos 0) (fourth d) reads reads.positive (ap (λ (z : ℤ). z *ℤ fourth d) nothing)) (nil_reads (fourth d) reads.positive)
 
-pub members_are_arc : PatternsWorkApart
-members_are_arc tube x h =
+pub patterns_apart : PatternsWorkApart
+patterns_apart tube x h =
     let b = numbers_read tube x (parts_read h) in
     record {
       apart = apart_read h b;

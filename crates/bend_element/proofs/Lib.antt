@@ -3,4 +3,5 @@ pub mod Modes
 pub mod ArcReadings
 pub mod ArcWork
 pub mod ArcLaw
+pub mod EndLaws
 pub mod NormalLemmas
