@@ -2,7 +2,7 @@
 use Rattle.std.proofs.Common.{◌≡◌, ◌≢◌, ◌*◌, ◌^◌, List, [], ◌∷◌, refl, ap, sym, ◌∙◌, arith, true, ℤ, pos, ◌+ℤ◌, ◌*ℤ◌, neg_ℤ, ◌<ℤ◌, ◌-ℤ◌}
 use Rattle.std.proofs.lemmas.Int.{ints}
 use Rattle.int_laws.proofs.Sums.{int_sums}
-use Rattle.int_laws.proofs.Products.{mul_comm, mul_assoc, mul_swap, mul_right_comm, same_of_mul, lt_of_mul, one-mul, zero-mul, mul-neg, neg-mul, mul_positive, add-mul, mul_mul_mul_comm, mul-sub}
+use Rattle.int_laws.proofs.Products.{mul_comm, mul_assoc, mul_swap, mul_right_comm, same_of_mul, lt_of_mul, one-mul, zero-mul, mul_positive, mul_mul_mul_comm, mul-sub}
 use Rattle.flex_interval.specs.Fraction.{Fraction, negated, times, plus, minus, over, scaled}
 use Rattle.member_pairs.specs.Tubes.{divisor_of}
 use Rattle.member_pairs.specs.declared.tube.Tube.{Tube}
@@ -11,7 +11,7 @@ use Rattle.bend_element.specs.ExactBend.{Mode, plane_rotation, radius_moment, ch
 use Rattle.bend_element.specs.Arc.{nil, unit, radius, reach, plane_reach, normal_reach, pattern, work, AreSame, IsDivisible, PatternsWorkApart}
 use Rattle.bend_element.proofs.ArcReadings.{Reads, reads_whole, reads_at, reads_same, reads_scaled, reads_times, reads_plus, reads_over, reads_minus}
 use Rattle.bend_element.specs.EndLoads.{half_chord, chord_distance}
-use Rattle.bend_element.proofs.ArcWork.{cube, Numbers, AreRead, Balance, at, numerators, sum, fourth, nil_reads, work_reads, no_work, doubled, by_balance, softness, plane_excess, normal_excess, twice, none, with_excesses, vE, vR, vH, vF, vA, vS, vC, vM, vK, vT, vG, vD, vU}
+use Rattle.bend_element.proofs.ArcWork.{cube, Numbers, AreRead, Balance, at, numerators, sum, fourth, nil_reads, work_reads, no_work, doubled, by_balance, softness, plane_excess, normal_excess, twice, none, with_excesses, vE, vR, vA, vS, vC, vM, vK, vT, vG, vD, vU}
 use Rattle.bend_element.proofs.Modes.{by_mode}
 use Rattle.bend_element.proofs.Polynomials.{Polynomial, variable, opposite, added, multiplied, number, value, of_list, terms, cancels, same_value}
 

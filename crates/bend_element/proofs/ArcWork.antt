@@ -1,5 +1,5 @@
 -- The work of one pattern of load on the deformations of another, over one denominator.
-use Rattle.std.proofs.Common.{◌≡◌, ◌≢◌, ◌^◌, [], ◌∷◌, ℕ, refl, ap, sym, ◌∙◌, arith, true, ℤ, pos, negsuc, ◌+ℤ◌, ◌*ℤ◌, neg_ℤ, ◌<ℤ◌}
+use Rattle.std.proofs.Common.{◌≡◌, ◌≢◌, ◌^◌, [], ◌∷◌, ℕ, refl, ap, sym, ◌∙◌, arith, true, ℤ, pos, ◌+ℤ◌, ◌*ℤ◌, ◌<ℤ◌}
 use Rattle.std.proofs.lemmas.Int.{ints}
 use Rattle.int_laws.proofs.Sums.{int_sums}
 use Rattle.int_laws.proofs.Products.{mul_comm, one-mul, zero-mul}
@@ -55,32 +55,46 @@ at n d = of_list (n.e ∷ n.r ∷ n.h ∷ n.f ∷ n.a ∷ n.s ∷ n.c ∷ n.m �
 -- they as variables
 abbrev pub vE : Polynomial
 vE = variable 0
+
 abbrev pub vR : Polynomial
 vR = variable 1
+
 abbrev pub vH : Polynomial
 vH = variable 2
+
 abbrev pub vF : Polynomial
 vF = variable 3
+
 abbrev pub vA : Polynomial
 vA = variable 4
+
 abbrev pub vS : Polynomial
 vS = variable 5
+
 abbrev pub vC : Polynomial
 vC = variable 6
+
 abbrev pub vM : Polynomial
 vM = variable 7
+
 abbrev pub vK : Polynomial
 vK = variable 8
+
 abbrev pub vT : Polynomial
 vT = variable 9
+
 abbrev pub vG : Polynomial
 vG = variable 10
+
 abbrev pub vP : Polynomial
 vP = variable 11
+
 abbrev pub vQ : Polynomial
 vQ = variable 12
+
 abbrev pub vD : Polynomial
 vD = variable 13
+
 abbrev pub vU : Polynomial
 vU = variable 14
 

@@ -1,18 +1,18 @@
 -- The members of a bend carry a load at its end, and give under it, as the arc does.
-use Rattle.std.proofs.Common.{◌≡◌, ◌^◌, [], ◌∷◌, List, ℕ, refl, ap, sym, ◌∙◌, arith, Bool, true, ℤ, pos, ◌+ℤ◌, ◌*ℤ◌, ◌<ℤ◌}
+use Rattle.std.proofs.Common.{◌≡◌, ◌^◌, [], ◌∷◌, List, ℕ, refl, ap, sym, ◌∙◌, arith, true, ℤ, pos, ◌+ℤ◌, ◌*ℤ◌, ◌<ℤ◌}
 use Rattle.std.proofs.lemmas.Int.{ints}
 use Rattle.int_laws.proofs.Sums.{int_sums}
 use Rattle.int_laws.proofs.Products.{mul_comm, zero-mul, mul_right_comm, mul_positive, same_of_mul}
-use Rattle.flex_interval.specs.Fraction.{Fraction, negated, times, over, plus, minus}
+use Rattle.flex_interval.specs.Fraction.{Fraction, times, minus}
 use Rattle.member_pairs.specs.Axes.{Axis, x_axis, y_axis, z_axis, Motion, translation, rotation, to_end}
 use Rattle.member_pairs.specs.declared.tube.Tube.{Tube}
-use Rattle.bend_element.specs.Arc.{nil, unit, work, AreSame, IsDivisible}
+use Rattle.bend_element.specs.Arc.{unit, AreSame, IsDivisible}
 use Rattle.bend_element.specs.Arcs.{ExactArc}
-use Rattle.bend_element.specs.EndLoads.{Load, force_along, moment_about, chordwise, sidewise, crosswise, half_chord, load_pattern, of_modes, carried, over_modes, along, load_at_to, IsFrame, MembersGiveAsArc, MembersCarryLoad}
+use Rattle.bend_element.specs.EndLoads.{Load, force_along, moment_about, chordwise, sidewise, crosswise, half_chord, of_modes, carried, over_modes, load_at_to, IsFrame, MembersGiveAsArc, MembersCarryLoad}
 use Rattle.bend_element.specs.ExactBend.{Mode, plane_rotation, radial_force, chord_force, radius_moment, chord_moment, normal_force, flexibility, plane_centre, normal_centre, ExactFrame, side, shape_of}
 use Rattle.bend_element.proofs.ArcLaw.{Common, parts_read, numbers_read, numbers, itself, joined, alone, square, to_fourth, unit_reads, each_gives, balanced, plane_law, normal_law, plane_centre_defined, normal_centre_defined, plus_defined, negated_defined, times_defined}
 use Rattle.bend_element.proofs.ArcReadings.{Reads, reads_at, reads_same, reads_negated, reads_times, reads_plus, reads_minus}
-use Rattle.bend_element.proofs.ArcWork.{Numbers, AreRead, Balance, at, fourth, nil_reads, numerators, load_numerators, load_work_reads, sum, with_excesses, by_balance, none, twice, vE, vH, vF, vK, vP, vQ, vD, vU}
+use Rattle.bend_element.proofs.ArcWork.{AreRead, at, nil_reads, numerators, load_numerators, load_work_reads, sum, with_excesses, by_balance, none, twice, vE, vH, vF, vK, vP, vQ, vD, vU}
 use Rattle.bend_element.proofs.Polynomials.{Polynomial, variable, opposite, added, multiplied, value, of_list, terms, cancels, same_value}
 
 -- a number reads as one that is the same
@@ -156,7 +156,7 @@ members_give tube x h p q =
     } in
     let held = carried_read arms in
     let members = over_modes_read (at n d) (value (at n d) wide) (λ m. times (times (flexibility tube x m) (carried tube x (half_chord x) p m) 56) (carried tube x (half_chord x) q m) 56)
-        (λ m. multiplied (multiplied (sum (numerators m) (numerators m)) (end_row p m)) (end_row q m)) (λ m. reads_times 56 (reads_times 56 (each_gives h b m) (held p m)) (held q m)) in
+    (λ m. multiplied (multiplied (sum (numerators m) (numerators m)) (end_row p m)) (end_row q m)) (λ m. reads_times 56 (reads_times 56 (each_gives h b m) (held p m)) (held q m)) in
     let arc = load_work_reads b p q in
     reads_same
     (reads_at (value (at n d) (by_members p q)) (value (at n d) wide) arc members.positive
@@ -168,20 +168,28 @@ members_give tube x h p q =
 -- of 1, half the chord, the elastic centres, the unit vectors' parts along an axis, the denominator and 2^56
 abbrev oE : Polynomial
 oE = variable 0
+
 abbrev oHalf : Polynomial
 oHalf = variable 1
+
 abbrev oPlane : Polynomial
 oPlane = variable 2
+
 abbrev oNormal : Polynomial
 oNormal = variable 3
+
 abbrev oChordwise : Polynomial
 oChordwise = variable 4
+
 abbrev oCrosswise : Polynomial
 oCrosswise = variable 5
+
 abbrev oSidewise : Polynomial
 oSidewise = variable 6
+
 abbrev oD : Polynomial
 oD = variable 7
+
 abbrev oU : Polynomial
 oU = variable 8
 
@@ -302,7 +310,7 @@ carry {tube} {x} {f} {i} {v} {d} h p m =
     let held = carried_read arms in
     let cube : ℤ = (d *ℤ square d) *ℤ pos (2 ^ 56) in
     let members = over_modes_read v cube (λ mode. times (carried tube x f.half p mode) (shape_of tube x f mode to_end m i) 56) (λ mode. multiplied (held_row p mode) (shape_row m mode))
-        (λ mode. reads_times 56 (held p mode) (shape_read h m mode)) in
+    (λ mode. reads_times 56 (held p mode) (shape_read h m mode)) in
     let wide : value v held_cube ≡ cube = ap (λ (z : ℤ). (z *ℤ ((z *ℤ z) *ℤ v 8)) *ℤ v 8) h.here ∙ ap (λ (z : ℤ). (d *ℤ ((d *ℤ d) *ℤ z)) *ℤ z) h.up in
     let even = held_even v p m (no_excess v d (pos (2 ^ 56)) h.one h.here h.up) in
     reads_same members

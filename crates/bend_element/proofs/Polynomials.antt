@@ -1,6 +1,5 @@
 -- Polynomials over whole numbers: where the terms of a difference cancel, its two sides have the same value everywhere.
-use Rattle.std.proofs.Common.{◌≡◌, ℕ, suc, zero, List, [], ◌∷◌, ◌*◌, inl, inr, refl, ap, sym, ◌∙◌, arith, cond, Bool, true, false, ◌&&◌, nat_eq, ℤ, pos, negsuc, ◌+ℤ◌, ◌*ℤ◌, neg_ℤ, slice_index_or}
-use Rattle.std.proofs.lemmas.Int.{ints}
+use Rattle.std.proofs.Common.{◌≡◌, ℕ, suc, zero, List, [], ◌∷◌, inl, inr, refl, ap, sym, ◌∙◌, arith, cond, Bool, true, false, ◌&&◌, nat_eq, ℤ, pos, negsuc, ◌+ℤ◌, ◌*ℤ◌, neg_ℤ, slice_index_or}
 use Rattle.std.proofs.lemmas.Bool.Decides.{eqb_tells}
 use Rattle.std.specs.Prelude.{nat_le}
 use Rattle.int_laws.proofs.Sums.{int_sums}
@@ -129,8 +128,8 @@ put_is v m (k ∷ ks) =
     omega (arith, int_sums, put_is v m ks) in
     chosen v (alike m.factors k.factors) _ _ _
     (λ h.
-      let same : m.coefficient *ℤ product_of v m.factors ≡ m.coefficient *ℤ product_of v k.factors = ap (λ (fs : List ℕ). m.coefficient *ℤ product_of v fs) (alike_is m.factors k.factors h) in
-      omega (arith, int_sums, same, add-mul m.coefficient k.coefficient (product_of v k.factors)))
+    let same : m.coefficient *ℤ product_of v m.factors ≡ m.coefficient *ℤ product_of v k.factors = ap (λ (fs : List ℕ). m.coefficient *ℤ product_of v fs) (alike_is m.factors k.factors h) in
+    omega (arith, int_sums, same, add-mul m.coefficient k.coefficient (product_of v k.factors)))
     apart
 
 put_all_is : (v : ℕ → ℤ) (ms ks : List Monomial) → value_of v (put_all ms ks) ≡ value_of v ms +ℤ value_of v ks
