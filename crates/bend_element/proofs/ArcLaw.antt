@@ -1,22 +1,25 @@
--- The members of a bend are its arc.
-use Rattle.std.proofs.Common.{◌≡◌, ◌≢◌, ◌*◌, ◌^◌, List, [], ◌∷◌, refl, ap, sym, ◌∙◌, arith, ℤ, pos, ◌+ℤ◌, ◌*ℤ◌, neg_ℤ, ◌<ℤ◌, ◌-ℤ◌}
+-- The patterns of load along an arc work apart, each by the flexibility of its member.
+use Rattle.std.proofs.Common.{◌≡◌, ◌≢◌, ◌*◌, ◌^◌, List, [], ◌∷◌, refl, ap, sym, ◌∙◌, arith, true, ℤ, pos, ◌+ℤ◌, ◌*ℤ◌, neg_ℤ, ◌<ℤ◌, ◌-ℤ◌}
 use Rattle.std.proofs.lemmas.Int.{ints}
 use Rattle.int_laws.proofs.Sums.{int_sums}
-use Rattle.int_laws.proofs.Products.{mul_comm, mul_assoc, mul_swap, mul_right_comm, same_of_mul, lt_of_mul, one-mul, zero-mul, mul-neg, neg-mul, mul_positive, add-mul, mul_mul_mul_comm, mul-sub}
+use Rattle.int_laws.proofs.Products.{mul_comm, mul_assoc, mul_swap, mul_right_comm, same_of_mul, lt_of_mul, one-mul, zero-mul, mul_positive, mul_mul_mul_comm, mul-sub}
 use Rattle.flex_interval.specs.Fraction.{Fraction, negated, times, plus, minus, over, scaled}
 use Rattle.member_pairs.specs.Tubes.{divisor_of}
 use Rattle.member_pairs.specs.declared.tube.Tube.{Tube}
 use Rattle.bend_element.specs.Arcs.{ExactArc}
-use Rattle.bend_element.specs.ExactBend.{Mode, plane_rotation, radius_moment, chord_moment, sine_square, cosine_square, twist, gyration_square, flexibility, rotation_flexibility, radius_moment_flexibility, chord_moment_flexibility, twisted_sine, radial_flexibility, bending_square, radial_force, centre, plane_centre, normal_centre}
-use Rattle.bend_element.specs.Arc.{nil, radius, reach, plane_reach, normal_reach, pattern, work, AreSame, IsDivisible, PatternsWorkApart}
+use Rattle.bend_element.specs.ExactBend.{Mode, plane_rotation, radius_moment, chord_moment, chord_force, normal_force, chord_flexibility, normal_flexibility, offset_flexibility, spread, radius_square, sine_square, cosine_square, twist, gyration_square, flexibility, rotation_flexibility, radius_moment_flexibility, chord_moment_flexibility, twisted_sine, radial_flexibility, bending_square, radial_force, centre, plane_centre, normal_centre}
+use Rattle.bend_element.specs.Arc.{nil, unit, radius, reach, plane_reach, normal_reach, pattern, work, AreSame, IsDivisible, PatternsWorkApart}
 use Rattle.bend_element.proofs.ArcReadings.{Reads, reads_whole, reads_at, reads_same, reads_scaled, reads_times, reads_plus, reads_over, reads_minus}
-use Rattle.bend_element.proofs.ArcWork.{cube, Numbers, AreRead, numerators, sum, fourth, nil_reads, work_reads, no_work, lifted, doubled, mul-zero, zero-add, add-zero}
+use Rattle.bend_element.specs.EndLoads.{half_chord, chord_distance}
+use Rattle.bend_element.proofs.ArcWork.{cube, Numbers, AreRead, Balance, at, numerators, sum, fourth, nil_reads, work_reads, no_work, doubled, by_balance, softness, plane_excess, normal_excess, twice, none, with_excesses, vE, vR, vA, vS, vC, vM, vK, vT, vG, vD, vU}
+use Rattle.bend_element.proofs.Modes.{by_mode}
+use Rattle.bend_element.proofs.Polynomials.{Polynomial, variable, opposite, added, multiplied, number, value, of_list, terms, cancels, same_value}
 
 -- ---- one denominator for all
 
 pub record Over (x : Fraction) (d : ℤ) : Type 0 where
-  num : ℤ
-  reads : Reads x num d
+  pub num : ℤ
+  pub reads : Reads x num d
 
 wider : {x : Fraction} {d : ℤ} (q : ℤ) → pos 0 <ℤ q → Over x d → Over x (d *ℤ q)
 wider {x} {d} q h o = record {
@@ -33,11 +36,11 @@ each_wider [] d q h o = wider q h o
 each_wider (x ∷ xs) d q h o = (wider q h o.0, each_wider xs d q h o.1)
 
 pub record Common (xs : List Fraction) : Type 0 where
-  d : ℤ
-  positive : pos 0 <ℤ d
-  each : Each xs d
+  pub d : ℤ
+  pub positive : pos 0 <ℤ d
+  pub each : Each xs d
 
-alone : Common []
+pub alone : Common []
 alone = record { d = pos 1; positive = omega (arith, ints); each = record { num = pos 0; reads = reads_whole (pos 0) } }
 
 pub joined : {x : Fraction} {n q : ℤ} {xs : List Fraction} → Reads x n q → Common xs → Common (x ∷ xs)
@@ -49,7 +52,7 @@ joined {x} {n} {q} {xs} h c =
       each = (record { num = n *ℤ c.d; reads = reads_at (n *ℤ c.d) (c.d *ℤ q) h both (sym (mul_assoc n c.d q)) }, each_wider xs c.d q h.positive c.each);
     }
 
-itself : (x : Fraction) → pos 0 <ℤ x.den → Reads x x.num x.den
+pub itself : (x : Fraction) → pos 0 <ℤ x.den → Reads x x.num x.den
 itself x h = record { defined = h; positive = h; same = refl }
 
 radius_reads : (x : ExactArc) → Reads (radius x) (x.radius *ℤ pos (2 ^ 56)) (pos 1 *ℤ pos (10 ^ 6))
@@ -66,6 +69,9 @@ numerator_positive : {x : Fraction} {n q : ℤ} → Reads x n q → pos 0 <ℤ x
 numerator_positive {x} {n} {q} h above =
     lt_of_mul x.den (pos 0) n (omega (arith, int_sums, h.defined)) (omega (arith, int_sums, zero-mul x.den, h.same, mul_positive x.num q above h.positive))
 
+none_left : (a b : ℤ) → a ≡ b → a +ℤ neg_ℤ b ≡ pos 0
+none_left a b h = omega (arith, int_sums, h)
+
 -- a reach reads r u over v
 reach_balance : (r u q v d h z : ℤ) → pos 0 <ℤ z → z ≡ (d *ℤ q) *ℤ pos (2 ^ 56) → h *ℤ ((d *ℤ (q *ℤ v)) *ℤ pos (2 ^ 56)) ≡ (r *ℤ (pos (2 ^ 56) *ℤ (u *ℤ q))) *ℤ d → h *ℤ v ≡ r *ℤ u
 reach_balance r u q v d h z positive is same =
@@ -76,15 +82,15 @@ reach_balance r u q v d h z positive is same =
     ∙ sym (mul_assoc r u ((d *ℤ q) *ℤ pos (2 ^ 56))) ∙ ap (λ (y : ℤ). (r *ℤ u) *ℤ y) (sym is) in
     same_of_mul z (h *ℤ v) (r *ℤ u) positive (left ∙ same ∙ right)
 
-plus_defined : (x y : Fraction) → pos 0 <ℤ x.den → pos 0 <ℤ y.den → pos 0 <ℤ (plus x y).den
+pub plus_defined : (x y : Fraction) → pos 0 <ℤ x.den → pos 0 <ℤ y.den → pos 0 <ℤ (plus x y).den
 unfolding plus
 plus_defined x y a b = mul_positive x.den y.den a b
 
-negated_defined : (x : Fraction) → pos 0 <ℤ x.den → pos 0 <ℤ (negated x).den
+pub negated_defined : (x : Fraction) → pos 0 <ℤ x.den → pos 0 <ℤ (negated x).den
 unfolding negated
 negated_defined x a = a
 
-times_defined : (x y : Fraction) → pos 0 <ℤ x.den → pos 0 <ℤ y.den → pos 0 <ℤ (times x y 56).den
+pub times_defined : (x y : Fraction) → pos 0 <ℤ x.den → pos 0 <ℤ y.den → pos 0 <ℤ (times x y 56).den
 times_defined x y a b = (reads_times 56 (itself x a) (itself y b)).defined
 
 cosine_square_defined : {tube : Tube} {x : ExactArc} → IsDivisible tube x → pos 0 <ℤ (cosine_square x).den
@@ -121,17 +127,18 @@ normal_reach_defined {tube} {x} h =
     (reads_over 56 (doubled (reads_times 56 (twist_reads tube) (itself x.sin h.sin_defined))) (itself (chord_moment_flexibility tube x) (chord_moment_defined h)) h.soft h.soft).defined
 
 -- what the patterns are made of
-abbrev parts : Tube → ExactArc → List Fraction
-parts tube x = x.a ∷ x.sin ∷ x.k ∷ cosine_square x ∷ sine_square x ∷ twist tube ∷ gyration_square tube ∷ radius x ∷ plane_reach x ∷ normal_reach tube x ∷ []
+abbrev pub parts : Tube → ExactArc → List Fraction
+parts tube x = x.a ∷ x.sin ∷ x.k ∷ cosine_square x ∷ sine_square x ∷ twist tube ∷ gyration_square tube ∷ radius x ∷ plane_reach x ∷ normal_reach tube x ∷ half_chord x ∷ chord_distance x ∷ []
 
-parts_read : {tube : Tube} {x : ExactArc} → IsDivisible tube x → Common (parts tube x)
+pub parts_read : {tube : Tube} {x : ExactArc} → IsDivisible tube x → Common (parts tube x)
 parts_read {tube} {x} h =
     joined (itself x.a h.a_defined) (joined (itself x.sin h.sin_defined) (joined (itself x.k h.k_defined)
     (joined (itself (cosine_square x) (cosine_square_defined h)) (joined (itself (sine_square x) (sine_square_defined h))
     (joined (twist_reads tube) (joined (gyration_reads tube) (joined (radius_reads x)
-    (joined (itself (plane_reach x) (plane_reach_defined h)) (joined (itself (normal_reach tube x) (normal_reach_defined h)) alone)))))))))
+    (joined (itself (plane_reach x) (plane_reach_defined h)) (joined (itself (normal_reach tube x) (normal_reach_defined h))
+    (joined (reads_times 56 (radius_reads x) (itself x.sin h.sin_defined)) (joined (reads_times 56 (radius_reads x) (itself x.cos h.cos_defined)) alone)))))))))))
 
-abbrev numbers : (tube : Tube) (x : ExactArc) → Common (parts tube x) → Numbers
+abbrev pub numbers : (tube : Tube) (x : ExactArc) → Common (parts tube x) → Numbers
 numbers tube x c = record {
   e = c.d *ℤ pos (2 ^ 56);
   a = c.each.0.num;
@@ -144,13 +151,18 @@ numbers tube x c = record {
   r = c.each.1.1.1.1.1.1.1.0.num;
   h = c.each.1.1.1.1.1.1.1.1.0.num;
   f = c.each.1.1.1.1.1.1.1.1.1.0.num;
+  p = c.each.1.1.1.1.1.1.1.1.1.1.0.num;
+  q = c.each.1.1.1.1.1.1.1.1.1.1.1.0.num;
 }
 
-numbers_read : (tube : Tube) (x : ExactArc) (c : Common (parts tube x)) → AreRead tube x (numbers tube x c) c.d
+pub unit_reads : (d : ℤ) → pos 0 <ℤ d → Reads unit (d *ℤ pos (2 ^ 56)) d
+unit_reads d h = reads_at (d *ℤ pos (2 ^ 56)) d (reads_whole (pos (2 ^ 56))) h (mul_comm (pos (2 ^ 56)) d ∙ sym (mul_comm (d *ℤ pos (2 ^ 56)) (pos 1) ∙ one-mul (d *ℤ pos (2 ^ 56))))
+
+pub numbers_read : (tube : Tube) (x : ExactArc) (c : Common (parts tube x)) → AreRead tube x (numbers tube x c) c.d
 numbers_read tube x c = record {
   positive = c.positive;
   one = refl;
-  e = reads_at (c.d *ℤ pos (2 ^ 56)) c.d (reads_whole (pos (2 ^ 56))) c.positive (mul_comm (pos (2 ^ 56)) c.d ∙ sym (mul_comm (c.d *ℤ pos (2 ^ 56)) (pos 1) ∙ one-mul (c.d *ℤ pos (2 ^ 56))));
+  e = unit_reads c.d c.positive;
   a = c.each.0.reads;
   s = c.each.1.0.reads;
   k = c.each.1.1.0.reads;
@@ -161,11 +173,13 @@ numbers_read tube x c = record {
   r = c.each.1.1.1.1.1.1.1.0.reads;
   h = c.each.1.1.1.1.1.1.1.1.0.reads;
   f = c.each.1.1.1.1.1.1.1.1.1.0.reads;
+  p = c.each.1.1.1.1.1.1.1.1.1.1.0.reads;
+  q = c.each.1.1.1.1.1.1.1.1.1.1.1.0.reads;
 }
 
 -- ---- the reaches
 
-abbrev square : ℤ → ℤ
+abbrev pub square : ℤ → ℤ
 square d = (d *ℤ d) *ℤ pos (2 ^ 56)
 
 chord_moment_reads : {tube : Tube} {x : ExactArc} {n : Numbers} {d : ℤ} → AreRead tube x n d → Reads (chord_moment_flexibility tube x) ((n.k *ℤ n.m) +ℤ (n.t *ℤ n.c)) (square d)
@@ -187,36 +201,58 @@ normal_balance {tube} {x} {n} {d} h b =
 
 -- ---- each by its own
 
-own : {x y : Fraction} {n m q : ℤ} → Reads x n q → n ≡ m → Reads y m q → AreSame x y
-own {x} {y} {n} {m} {q} a e b = reads_same (reads_at m q a a.positive (ap (λ (z : ℤ). z *ℤ q) e)) b
+pub balanced : {tube : Tube} {x : ExactArc} {n : Numbers} {d : ℤ} → IsDivisible tube x → AreRead tube x n d → Balance n d
+balanced {tube} {x} {n} {d} h b =
+    let plane : n.h *ℤ n.a ≡ n.r *ℤ n.s = plane_balance h b in
+    let normal : n.f *ℤ ((n.k *ℤ n.m) +ℤ (n.t *ℤ n.c)) ≡ n.r *ℤ ((n.t *ℤ n.s) *ℤ pos 2) = normal_balance h b in
+    record { plane = none_left _ _ plane; normal = none_left _ _ normal; one = none_left _ _ b.one }
 
-past : (k y z : ℤ) → k *ℤ (z *ℤ y) ≡ (k *ℤ y) *ℤ z
-past k y z = ap (λ (u : ℤ). k *ℤ u) (mul_comm z y) ∙ sym (mul_assoc k y z)
+cube_positive : {d : ℤ} → pos 0 <ℤ d → pos 0 <ℤ cube d
+cube_positive {d} h =
+    let up : pos 0 <ℤ pos (2 ^ 56) = omega (arith, ints) in
+    mul_positive _ (pos (2 ^ 56)) (mul_positive (square d) d (mul_positive (d *ℤ d) (pos (2 ^ 56)) (mul_positive d d h h) up) h) up
 
-two_past : (k t x y z : ℤ) → (k *ℤ (z *ℤ x)) +ℤ (t *ℤ (z *ℤ y)) ≡ ((k *ℤ x) +ℤ (t *ℤ y)) *ℤ z
-two_past k t x y z = omega (arith, int_sums, past k x z, past t y z, add-mul (k *ℤ x) (t *ℤ y) z)
+pub fourth_positive : {d : ℤ} → pos 0 <ℤ d → pos 0 <ℤ fourth d
+fourth_positive {d} h = mul_positive (d *ℤ cube d) (pos (2 ^ 56)) (mul_positive d (cube d) h (cube_positive h)) (omega (arith, ints))
 
-negated_square : (e : ℤ) → neg_ℤ e *ℤ neg_ℤ e ≡ e *ℤ e
-negated_square e = omega (arith, int_sums, neg-mul e (neg_ℤ e), mul-neg e e)
+-- the flexibility of a mode, by the numerator of its pattern's work on itself
+abbrev pub Gives : Tube → ExactArc → Numbers → ℤ → Mode → Type 0
+Gives tube x n d m = Reads (flexibility tube x m) (value (at n d) (sum (numerators m) (numerators m))) (fourth d)
 
-rotation_own : {tube : Tube} {x : ExactArc} {n : Numbers} {d : ℤ} → AreRead tube x n d → AreSame (work tube x (pattern tube x plane_rotation) (pattern tube x plane_rotation)) (flexibility tube x plane_rotation)
+abbrev pub squared : Polynomial
+squared = multiplied (multiplied vD vD) vU
+
+abbrev cubed : Polynomial
+cubed = multiplied (multiplied squared vD) vU
+
+abbrev pub to_fourth : Polynomial
+to_fourth = multiplied (multiplied vD cubed) vU
+
+-- from a reading of the flexibility over another denominator
+gives : {tube : Tube} {x : ExactArc} {n : Numbers} {d : ℤ} → IsDivisible tube x → AreRead tube x n d → (mode : Mode) (m w p q r : Polynomial) → Reads (flexibility tube x mode) (value (at n d) m) (value (at n d) w) →
+    cancels (terms (added (multiplied m to_fourth) (opposite (with_excesses (multiplied (sum (numerators mode) (numerators mode)) w) p q r)))) ≡ true → Gives tube x n d mode
+gives {tube} {x} {n} {d} h b mode m w p q r reads e =
+    reads_at (value (at n d) (sum (numerators mode) (numerators mode))) (fourth d) reads (fourth_positive b.positive)
+    (by_balance (balanced h b) (multiplied m to_fourth) (multiplied (sum (numerators mode) (numerators mode)) w) p q r e)
+
+-- 1^2 less (d 2^56)^2 is this by the excess of 1
+abbrev twice_unit : Polynomial → Polynomial
+twice_unit a = opposite (multiplied a (added vE (multiplied vD vU)))
+
+rotation_gives : {tube : Tube} {x : ExactArc} {n : Numbers} {d : ℤ} → IsDivisible tube x → AreRead tube x n d → Gives tube x n d plane_rotation
 unfolding rotation_flexibility
-rotation_own {tube} {x} {n} {d} b =
-    let e : sum n (numerators n plane_rotation) (numerators n plane_rotation) ≡ (n.k *ℤ (n.a *ℤ pos 2)) *ℤ (n.e *ℤ n.e) = simp (zero-mul, mul-zero, zero-add, add-zero) (past n.k (n.a *ℤ pos 2) (n.e *ℤ n.e)) in
-    own (work_reads b plane_rotation plane_rotation) e (lifted b.one (reads_times 56 b.k (doubled b.a)) b.positive)
+rotation_gives h b =
+    gives h b plane_rotation (multiplied vK (twice vA)) squared none none (twice_unit (multiplied (multiplied vK (twice vA)) squared)) (reads_times 56 b.k (doubled b.a)) refl
 
-about_radius_own : {tube : Tube} {x : ExactArc} {n : Numbers} {d : ℤ} → AreRead tube x n d → AreSame (work tube x (pattern tube x radius_moment) (pattern tube x radius_moment)) (flexibility tube x radius_moment)
+abbrev radius_softness : Polynomial
+radius_softness = added (multiplied vK vC) (multiplied vT vM)
+
+about_radius_gives : {tube : Tube} {x : ExactArc} {n : Numbers} {d : ℤ} → IsDivisible tube x → AreRead tube x n d → Gives tube x n d radius_moment
 unfolding radius_moment_flexibility
-about_radius_own {tube} {x} {n} {d} b =
-    let e : sum n (numerators n radius_moment) (numerators n radius_moment) ≡ ((n.k *ℤ n.c) +ℤ (n.t *ℤ n.m)) *ℤ (n.e *ℤ n.e) =
-    rw (negated_square n.e) (simp (zero-mul, mul-zero, zero-add, add-zero) (two_past n.k n.t n.c n.m (n.e *ℤ n.e))) in
-    own (work_reads b radius_moment radius_moment) e (lifted b.one (reads_plus (reads_times 56 b.k b.c) (reads_times 56 b.t b.m)) b.positive)
+about_radius_gives h b = gives h b radius_moment radius_softness squared none none (twice_unit (multiplied radius_softness squared)) (reads_plus (reads_times 56 b.k b.c) (reads_times 56 b.t b.m)) refl
 
-about_chord_own : {tube : Tube} {x : ExactArc} {n : Numbers} {d : ℤ} → AreRead tube x n d → AreSame (work tube x (pattern tube x chord_moment) (pattern tube x chord_moment)) (flexibility tube x chord_moment)
-about_chord_own {tube} {x} {n} {d} b =
-    let e : sum n (numerators n chord_moment) (numerators n chord_moment) ≡ ((n.k *ℤ n.m) +ℤ (n.t *ℤ n.c)) *ℤ (n.e *ℤ n.e) =
-    simp (zero-mul, mul-zero, zero-add, add-zero) (two_past n.k n.t n.m n.c (n.e *ℤ n.e)) in
-    own (work_reads b chord_moment chord_moment) e (lifted b.one (chord_moment_reads b) b.positive)
+about_chord_gives : {tube : Tube} {x : ExactArc} {n : Numbers} {d : ℤ} → IsDivisible tube x → AreRead tube x n d → Gives tube x n d chord_moment
+about_chord_gives h b = gives h b chord_moment softness squared none none (twice_unit (multiplied softness squared)) (chord_moment_reads b) refl
 
 -- R^2 over its own numbers and over the common ones
 square_balance : (x : ExactArc) (r d : ℤ) → Reads (radius x) r d → (x.radius *ℤ x.radius) *ℤ ((d *ℤ pos (2 ^ 56)) *ℤ (d *ℤ pos (2 ^ 56))) ≡ (r *ℤ r) *ℤ pos (10 ^ 12)
@@ -231,11 +267,6 @@ cube_is d =
     let u : ℤ = pos (2 ^ 56) in
     ap (λ (z : ℤ). (z *ℤ d) *ℤ u) (mul_assoc d d u) ∙ mul_assoc (d *ℤ (d *ℤ u)) d u ∙ mul_assoc d (d *ℤ u) (d *ℤ u)
 
-cube_positive : {d : ℤ} → pos 0 <ℤ d → pos 0 <ℤ cube d
-cube_positive {d} h =
-    let up : pos 0 <ℤ pos (2 ^ 56) = omega (arith, ints) in
-    mul_positive _ (pos (2 ^ 56)) (mul_positive (square d) d (mul_positive (d *ℤ d) (pos (2 ^ 56)) (mul_positive d d h h) up) h) up
-
 bending_square_reads : {tube : Tube} {x : ExactArc} {n : Numbers} {d : ℤ} → AreRead tube x n d → Reads (bending_square x) (n.k *ℤ (n.r *ℤ n.r)) (cube d)
 unfolding bending_square
 bending_square_reads {tube} {x} {n} {d} b =
@@ -243,21 +274,69 @@ bending_square_reads {tube} {x} {n} {d} b =
     reads_at (n.k *ℤ (n.r *ℤ n.r)) (cube d) (reads_scaled (x.radius *ℤ x.radius) (pos (10 ^ 12)) (omega (arith, ints)) b.k) (cube_positive b.positive)
     (ap (λ (z : ℤ). (n.k *ℤ (x.radius *ℤ x.radius)) *ℤ z) (cube_is d) ∙ mul_mul_mul_comm n.k (x.radius *ℤ x.radius) d (e *ℤ e) ∙ ap (λ (z : ℤ). (n.k *ℤ d) *ℤ z) (square_balance x n.r d b.r) ∙ mul_mul_mul_comm n.k d (n.r *ℤ n.r) (pos (10 ^ 12)))
 
-radial_own : {tube : Tube} {x : ExactArc} {n : Numbers} {d : ℤ} → AreRead tube x n d → AreSame (work tube x (pattern tube x radial_force) (pattern tube x radial_force)) (flexibility tube x radial_force)
+radius_square_reads : {tube : Tube} {x : ExactArc} {n : Numbers} {d : ℤ} → AreRead tube x n d → Reads (radius_square x) (n.r *ℤ n.r) (square d)
+unfolding radius_square
+radius_square_reads {tube} {x} {n} {d} b =
+    let s : ℤ = x.radius *ℤ x.radius in
+    let e : ℤ = d *ℤ pos (2 ^ 56) in
+    let turned : (s *ℤ pos (2 ^ 56)) *ℤ square d ≡ s *ℤ (e *ℤ e) = same_value (of_list (s ∷ d ∷ pos (2 ^ 56) ∷ [])) (multiplied (multiplied (variable 0) (variable 2)) (multiplied (multiplied (variable 1) (variable 1)) (variable 2))) (multiplied (variable 0) (multiplied (multiplied (variable 1) (variable 2)) (multiplied (variable 1) (variable 2)))) refl in
+    reads_at (n.r *ℤ n.r) (square d) (reads_scaled (pos (2 ^ 56)) (pos (10 ^ 12)) (omega (arith, ints)) (reads_whole s)) (reads_times 56 b.a b.a).positive
+    (turned ∙ square_balance x n.r d b.r ∙ ap (λ (z : ℤ). (n.r *ℤ n.r) *ℤ z) (sym (one-mul (pos (10 ^ 12)))))
+
+-- a number by the powers that bring it over another denominator
+raised_by : {x : Fraction} (n : Numbers) (d : ℤ) (m q p r : Polynomial) → Reads x (value (at n d) m) (value (at n d) q) → pos 0 <ℤ value (at n d) r → cancels (terms (added (multiplied m r) (opposite (multiplied p q)))) ≡ true → Reads x (value (at n d) p) (value (at n d) r)
+raised_by {x} n d m q p r reads positive e = reads_at (value (at n d) p) (value (at n d) r) reads positive (same_value (at n d) (multiplied m r) (multiplied p q) e)
+
+abbrev unit_square : Polynomial
+unit_square = multiplied (multiplied vD vU) (multiplied vD vU)
+
+radial_gives : {tube : Tube} {x : ExactArc} {n : Numbers} {d : ℤ} → IsDivisible tube x → AreRead tube x n d → Gives tube x n d radial_force
 unfolding radial_flexibility
-radial_own {tube} {x} {n} {d} b =
-    let worked = work_reads b radial_force radial_force in
-    let squares : n.e *ℤ n.e ≡ (d *ℤ pos (2 ^ 56)) *ℤ (d *ℤ pos (2 ^ 56)) = ap (λ (z : ℤ). z *ℤ z) b.one in
-    let stretch : Reads (gyration_square tube) (n.g *ℤ (n.e *ℤ n.e)) (cube d) =
-    reads_at (n.g *ℤ (n.e *ℤ n.e)) (cube d) b.g (cube_positive b.positive)
-    (ap (λ (z : ℤ). n.g *ℤ z) (cube_is d ∙ ap (λ (z : ℤ). d *ℤ z) (sym squares) ∙ mul_comm d (n.e *ℤ n.e)) ∙ sym (mul_assoc n.g (n.e *ℤ n.e) d)) in
-    let total : ℤ = (n.k *ℤ (n.r *ℤ n.r)) +ℤ (n.g *ℤ (n.e *ℤ n.e)) in
-    let e : sum n (numerators n radial_force) (numerators n radial_force) ≡ total *ℤ n.m =
-    simp (zero-mul, mul-zero, zero-add, add-zero)
-    (omega (arith, int_sums, mul_assoc n.k (n.r *ℤ n.r) n.m, mul_assoc n.g (n.e *ℤ n.e) n.m, add-mul (n.k *ℤ (n.r *ℤ n.r)) (n.g *ℤ (n.e *ℤ n.e)) n.m)) in
-    own worked e
-    (reads_at (total *ℤ n.m) (fourth d) (reads_times 56 (reads_plus (bending_square_reads b) stretch) b.m) worked.positive
-    (ap (λ (z : ℤ). (total *ℤ n.m) *ℤ (z *ℤ pos (2 ^ 56))) (mul_comm d (cube d))))
+radial_gives {tube} {x} {n} {d} h b =
+    let stretch = raised_by n d vG vD (multiplied vG unit_square) cubed b.g (cube_positive b.positive) refl in
+    gives h b radial_force (multiplied (added (multiplied vK (multiplied vR vR)) (multiplied vG unit_square)) vM) (multiplied (multiplied cubed vD) vU) none none
+    (twice_unit (multiplied (multiplied vG vM) to_fourth))
+    (reads_times 56 (reads_plus (bending_square_reads b) stretch) b.m) refl
+
+chord_gives : {tube : Tube} {x : ExactArc} {n : Numbers} {d : ℤ} → IsDivisible tube x → AreRead tube x n d → Gives tube x n d chord_force
+unfolding chord_flexibility spread
+chord_gives {tube} {x} {n} {d} h b =
+    let by_angle : Polynomial = multiplied squared vA in
+    let whole : Polynomial = multiplied (multiplied cubed by_angle) vU in
+    let mean = doubled (reads_over 56 (reads_times 56 b.s b.s) b.a h.angle (numerator_positive b.a h.angle)) in
+    let square = raised_by n d vC vD (multiplied vC (multiplied (multiplied vD vU) vA)) by_angle b.c mean.positive refl in
+    let bent = reads_times 56 (bending_square_reads b) (reads_minus square mean) in
+    let pulled = raised_by n d (multiplied vG vC) squared (multiplied (multiplied vG vC) (multiplied (multiplied vD unit_square) (multiplied vU vA))) whole (reads_times 56 b.g b.c) bent.positive refl in
+    gives h b chord_force
+    (added (multiplied (multiplied vK (multiplied vR vR)) (added (multiplied vC (multiplied (multiplied vD vU) vA)) (opposite (twice (multiplied vU (multiplied (multiplied vS vS) vD)))))) (multiplied (multiplied vG vC) (multiplied (multiplied vD unit_square) (multiplied vU vA))))
+    whole
+    (opposite (multiplied (twice (multiplied vK plane_excess)) (multiplied (multiplied to_fourth vD) vU)))
+    none
+    (twice_unit (multiplied (multiplied (multiplied vG vC) vA) (multiplied (multiplied to_fourth vD) vU)))
+    (reads_plus bent pulled) refl
+
+normal_gives : {tube : Tube} {x : ExactArc} {n : Numbers} {d : ℤ} → IsDivisible tube x → AreRead tube x n d → Gives tube x n d normal_force
+unfolding normal_flexibility offset_flexibility twisted_sine
+normal_gives {tube} {x} {n} {d} h b =
+    let soft = chord_moment_reads b in
+    let sine : Polynomial = multiplied vT vS in
+    let fourfold : Polynomial = multiplied (multiplied sine sine) (number (pos 4)) in
+    let whole : Polynomial = multiplied (multiplied (multiplied (multiplied squared squared) vU) (number (pos 1))) softness in
+    let twisted = reads_times 56 b.t b.s in
+    let less = reads_over 56 (reads_scaled (pos 4) (pos 1) (omega (arith, ints)) (reads_times 56 twisted twisted)) soft h.soft (numerator_positive soft h.soft) in
+    let first : Polynomial = multiplied (twice (multiplied vA vT)) (multiplied (multiplied squared vU) softness) in
+    let turning = raised_by n d (twice (multiplied vA vT)) squared first whole (doubled (reads_times 56 b.a b.t)) less.positive refl in
+    let all = reads_times 56 (radius_square_reads b) (reads_minus turning less) in
+    gives h b normal_force
+    (multiplied (multiplied vR vR) (added first (opposite (multiplied vU (multiplied fourfold squared)))))
+    (multiplied (multiplied squared whole) vU)
+    none
+    (opposite (multiplied normal_excess (multiplied (multiplied squared (multiplied squared squared)) (multiplied vU vU))))
+    none
+    all refl
+
+pub each_gives : {tube : Tube} {x : ExactArc} {n : Numbers} {d : ℤ} → IsDivisible tube x → AreRead tube x n d → (m : Mode) → Gives tube x n d m
+each_gives {tube} {x} {n} {d} h b = by_mode (Gives tube x n d) (rotation_gives h b) (radial_gives h b) (chord_gives h b) (about_radius_gives h b) (about_chord_gives h b) (normal_gives h b)
 
 -- ---- the elastic centres
 
@@ -282,11 +361,32 @@ centre_law x u v cos_defined defined =
     ∙ sym (mul_assoc (d *ℤ x.radius) w (q *ℤ m)) ∙ ap (λ (z : ℤ). z *ℤ (q *ℤ m)) (mul_assoc d x.radius w ∙ mul_comm d (x.radius *ℤ w) ∙ mul-sub (x.radius *ℤ w) first second)))
     right
 
-plane_law : {tube : Tube} {x : ExactArc} → IsDivisible tube x → AreSame (plane_centre x) (minus (plane_reach x) (times (radius x) x.cos 56))
+centre_defined : (x : ExactArc) (u v : Fraction) → pos 0 <ℤ x.cos.den → pos 0 <ℤ (over u v 56).den → pos 0 <ℤ (centre x u v).den
+unfolding centre minus
+centre_defined x u v cos_defined defined =
+    (reads_scaled x.radius (pos (10 ^ 6)) (omega (arith, ints)) (itself (plus (over u v 56) (negated x.cos)) (plus_defined (over u v 56) (negated x.cos) defined (negated_defined x.cos cos_defined)))).defined
+
+sine_over : {tube : Tube} {x : ExactArc} → IsDivisible tube x → pos 0 <ℤ (over x.sin x.a 56).den
+sine_over {tube} {x} h = (reads_over 56 (itself x.sin h.sin_defined) (itself x.a h.a_defined) h.angle h.angle).defined
+
+twisted_over : {tube : Tube} {x : ExactArc} → IsDivisible tube x → pos 0 <ℤ (over (scaled (twisted_sine tube x) (pos 2) (pos 1)) (chord_moment_flexibility tube x) 56).den
+unfolding twisted_sine
+twisted_over {tube} {x} h =
+    (reads_over 56 (doubled (reads_times 56 (twist_reads tube) (itself x.sin h.sin_defined))) (itself (chord_moment_flexibility tube x) (chord_moment_defined h)) h.soft h.soft).defined
+
+pub plane_centre_defined : {tube : Tube} {x : ExactArc} → IsDivisible tube x → pos 0 <ℤ (plane_centre x).den
+unfolding plane_centre
+plane_centre_defined {tube} {x} h = centre_defined x x.sin x.a h.cos_defined (sine_over h)
+
+pub normal_centre_defined : {tube : Tube} {x : ExactArc} → IsDivisible tube x → pos 0 <ℤ (normal_centre tube x).den
+unfolding normal_centre
+normal_centre_defined {tube} {x} h = centre_defined x (scaled (twisted_sine tube x) (pos 2) (pos 1)) (chord_moment_flexibility tube x) h.cos_defined (twisted_over h)
+
+pub plane_law : {tube : Tube} {x : ExactArc} → IsDivisible tube x → AreSame (plane_centre x) (minus (plane_reach x) (times (radius x) x.cos 56))
 unfolding plane_centre plane_reach
 plane_law {tube} {x} h = centre_law x x.sin x.a h.cos_defined (reads_over 56 (itself x.sin h.sin_defined) (itself x.a h.a_defined) h.angle h.angle).defined
 
-normal_law : {tube : Tube} {x : ExactArc} → IsDivisible tube x → AreSame (normal_centre tube x) (minus (normal_reach tube x) (times (radius x) x.cos 56))
+pub normal_law : {tube : Tube} {x : ExactArc} → IsDivisible tube x → AreSame (normal_centre tube x) (minus (normal_reach tube x) (times (radius x) x.cos 56))
 unfolding normal_centre normal_reach twisted_sine
 normal_law {tube} {x} h =
     centre_law x (scaled (times (twist tube) x.sin 56) (pos 2) (pos 1)) (chord_moment_flexibility tube x) h.cos_defined
@@ -295,17 +395,15 @@ normal_law {tube} {x} h =
 apart_read : {tube : Tube} {x : ExactArc} {n : Numbers} {d : ℤ} → IsDivisible tube x → AreRead tube x n d → (i j : Mode) → i ≢ j → AreSame (work tube x (pattern tube x i) (pattern tube x j)) nil
 apart_read {tube} {x} {n} {d} h b i j apart =
     let reads = work_reads b i j in
-    own reads (no_work n (record { plane = plane_balance h b; normal = normal_balance h b }) i j apart) (nil_reads (fourth d) reads.positive)
+    let nothing = no_work (balanced h b) i j apart in
+    reads_same (reads_at (pos 0) (fourth d) reads reads.positive (ap (λ (z : ℤ). z *ℤ fourth d) nothing)) (nil_reads (fourth d) reads.positive)
 
-pub members_are_arc : PatternsWorkApart
-members_are_arc tube x h =
+pub patterns_apart : PatternsWorkApart
+patterns_apart tube x h =
     let b = numbers_read tube x (parts_read h) in
     record {
       apart = apart_read h b;
-      rotation = rotation_own b;
-      radial = radial_own b;
+      own = λ m. reads_same (work_reads b m m) (each_gives h b m);
       plane = plane_law h;
       normal = normal_law h;
-      about_radius = about_radius_own b;
-      about_chord = about_chord_own b;
     }

@@ -1,5 +1,7 @@
+pub mod Polynomials
 pub mod Modes
 pub mod ArcReadings
 pub mod ArcWork
 pub mod ArcLaw
+pub mod EndLaws
 pub mod NormalLemmas

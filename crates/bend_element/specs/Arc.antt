@@ -50,7 +50,7 @@ normal_reach tube x = reach x (scaled (twisted_sine tube x) (pos 2) (pos 1)) (ch
 -- of a unit moment, or a unit force through its elastic centre
 abbrev pub pattern : Tube → ExactArc → Mode → Pattern
 pattern tube x plane_rotation = record { in_plane = record { mean = unit; cosine = nil; sine = nil }; across = no_course; torque = no_course; pull = no_course }
-pattern tube x radial_force = record { in_plane = record { mean = nil; cosine = nil; sine = radius x }; across = no_course; torque = no_course; pull = record { mean = nil; cosine = nil; sine = unit } }
+pattern tube x radial_force = record { in_plane = record { mean = nil; cosine = nil; sine = negated (radius x) }; across = no_course; torque = no_course; pull = record { mean = nil; cosine = nil; sine = negated unit } }
 pattern tube x chord_force = record { in_plane = record { mean = negated (plane_reach x); cosine = radius x; sine = nil }; across = no_course; torque = no_course; pull = record { mean = nil; cosine = unit; sine = nil } }
 pattern tube x radius_moment = record { in_plane = no_course; across = record { mean = nil; cosine = unit; sine = nil }; torque = record { mean = nil; cosine = nil; sine = negated unit }; pull = no_course }
 pattern tube x chord_moment = record { in_plane = no_course; across = record { mean = nil; cosine = nil; sine = unit }; torque = record { mean = nil; cosine = unit; sine = nil }; pull = no_course }
@@ -90,14 +90,11 @@ pub record IsDivisible (tube : Tube) (x : ExactArc) : Type 0 where
   pub angle : pos 0 <ℤ x.a.num
   pub soft : pos 0 <ℤ (chord_moment_flexibility tube x).num
 
--- no two patterns work on each other, and the rotation in the plane, the force along the middle radius and the two moments each
--- give by their own flexibility; and each elastic centre lies its reach less R cos past the middle of the chord
+-- no two patterns work on each other, and each gives by its member's flexibility; and each elastic centre lies its reach less R cos
+-- past the middle of the chord
 pub record WorkApart (tube : Tube) (x : ExactArc) : Type 0 where
   pub apart : (m n : Mode) → m ≢ n → AreSame (work tube x (pattern tube x m) (pattern tube x n)) nil
-  pub rotation : AreSame (work tube x (pattern tube x plane_rotation) (pattern tube x plane_rotation)) (flexibility tube x plane_rotation)
-  pub radial : AreSame (work tube x (pattern tube x radial_force) (pattern tube x radial_force)) (flexibility tube x radial_force)
-  pub about_radius : AreSame (work tube x (pattern tube x radius_moment) (pattern tube x radius_moment)) (flexibility tube x radius_moment)
-  pub about_chord : AreSame (work tube x (pattern tube x chord_moment) (pattern tube x chord_moment)) (flexibility tube x chord_moment)
+  pub own : (m : Mode) → AreSame (work tube x (pattern tube x m) (pattern tube x m)) (flexibility tube x m)
   pub plane : AreSame (plane_centre x) (minus (plane_reach x) (times (radius x) x.cos 56))
   pub normal : AreSame (normal_centre tube x) (minus (normal_reach tube x) (times (radius x) x.cos 56))
 

@@ -4,4 +4,5 @@ pub mod Stages
 pub mod Rounded
 pub mod Bend
 pub mod Arc
+pub mod EndLoads
 pub mod Normal

@@ -1,8 +1,15 @@
 ghost use Rattle.bend_element.specs.Arc.{PatternsWorkApart};
+ghost use Rattle.bend_element.specs.EndLoads.{MembersCarryLoad, MembersGiveAsArc};
 
-/// Of Castigliano's theorem along a bend's arc: no two of the six patterns of load work on each other; the rotation in the plane,
-/// the force along the middle radius and the two moments each give by the flexibility of their member; and the elastic centres
-/// lie where the patterns have them. The flexibilities of the two forces through these centres are not shown here.
+/// Of Castigliano's theorem along a bend's arc: no two of the six patterns of load work on each other, each gives by the
+/// flexibility of its member, and the elastic centres lie where the patterns have them.
 pub fn patterns_work_apart()
     ensures { PatternsWorkApart }
+{}
+
+/// The six members of a bend are its arc: what they carry of a load at TO is that load, and the flexibility of the end that they
+/// add up to is the arc's, entry by entry.
+pub fn members_are_arc()
+    ensures carry { MembersCarryLoad }
+    ensures give { MembersGiveAsArc }
 {}

@@ -12,6 +12,6 @@ mod normal;
 mod stiffness;
 
 pub use arc::Arc;
-pub use laws::patterns_work_apart;
+pub use laws::{members_are_arc, patterns_work_apart};
 pub use members::bend_members;
 pub use normal::{Normal, plane_normal, unit_normal};
