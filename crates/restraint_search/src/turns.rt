@@ -32,11 +32,14 @@ pub fn search<T: Trial>(
 {
     let mut closed = start.to_vec(alloc)?;
     for turn in 1..MOST_TURNS + 1 {
-        match trial.try_states(&closed) {
-            Ok(violated) if some_violated(&violated) => flip(&mut closed, &violated, turn),
-            Ok(_) => return Ok(closed),
+        let violated = match trial.try_states(&closed) {
+            Ok(violated) => violated,
             Err(fault) => return Err(fault_in_turn(turn, fault)),
+        };
+        if !some_violated(&violated) {
+            return Ok(closed);
         }
+        flip(&mut closed, &violated, turn);
     }
     Err(SearchFault::Turns)
 }
