@@ -1,0 +1,4 @@
+pub mod Trials
+pub mod Turns
+pub mod Outcomes
+pub mod Determined
