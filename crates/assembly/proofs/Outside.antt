@@ -4,9 +4,8 @@ use Rattle.std.proofs.lemmas.Bool.Decides.{nat_tests}
 use Rattle.int_laws.proofs.Products.{between_zeros, zero-mul, mul_comm}
 use Rattle.flex_interval.specs.Fraction.{Within}
 use Rattle.member_set.specs.declared.members.Member.{Member}
-use Rattle.member_set.specs.Members.{nothing, shape_at}
+use Rattle.member_set.specs.Members.{nothing, shape_at, touches}
 use Rattle.member_set.specs.Realisation.{fraction, entry_unit}
-use Rattle.assembly.specs.Stiffness.{touches}
 use Rattle.assembly.proofs.Fractions.{nothing_within}
 
 pub off_node : (m : Member) (row : ℕ) → touches m (row / 6) ≡ false → shape_at m row ≡ nothing

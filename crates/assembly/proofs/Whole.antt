@@ -10,7 +10,7 @@ use Rattle.int_laws.specs.Division.{floor_of}
 use Rattle.flex_interval.specs.Operations.{add_of}
 use Rattle.member_set.specs.declared.members.Member.{Member}
 use Rattle.member_set.specs.declared.members.Built.{Built}
-use Rattle.member_set.specs.Members.{nothing, Touches, IsBuilt, row_count, built_nodes, member_of, members_at, system}
+use Rattle.member_set.specs.Members.{nothing, Touches, IsBuilt, row_count, built_nodes, member_of, members_at, system, touches}
 use Rattle.member_set.specs.Interval.{Outcome, in_turn}
 use Rattle.int_laws.proofs.Sums.{int_sums}
 use Rattle.int_laws.proofs.Products.{between_zeros, mul_turn, zero-mul, mul_comm, mul_swap}
@@ -22,7 +22,7 @@ use Rattle.member_set.specs.Realisation.{Realisation, IsRealisation, every_membe
 use Rattle.sym_blocks.specs.Matrix.{entry, node_count as nodes_of, IsSymmetricByBlocks}
 use Rattle.assembly.proofs.Outside.{off_node, product_zero}
 use Rattle.assembly.specs.Stiffness.{AreAssembled, IsWithinRadius}
-use Rattle.assembly.specs.Stiffness.{stiffness_at, HasPatternOf, IsFirstWide, touches, entry_term, entry_sum, upper_entry, Joins, AreJoined}
+use Rattle.assembly.specs.Stiffness.{stiffness_at, HasPatternOf, IsFirstWide, entry_term, entry_sum, upper_entry, Joins, AreJoined}
 
 nothing_sum : (term : ℕ → Outcome) (n : ℕ) → ((t : ℕ) → t < n → term t ≡ Ok nothing) → in_turn add_of nothing term n ≡ Ok nothing
 unfolding add_of

@@ -1,5 +1,5 @@
 -- The stiffness matrix of a structure: the enclosure of each entry, its middle and its radius, and what it encloses.
-use Rattle.std.specs.Prelude.{ℕ, ◌+◌, ◌/◌, ◌^◌, ◌<◌, ◌≡◌, ◌==◌, ◌||◌, ⊤, ◌⊎◌, ◌↔◌, Bool, nat_lt, length, slice_index, ℤ, pos, ◌-ℤ◌, ◌*ℤ◌, ◌≤ℤ◌, unsigned_abs, Ok, Err, IsOk, IsErr, if◌then◌else◌}
+use Rattle.std.specs.Prelude.{ℕ, ◌+◌, ◌/◌, ◌^◌, ◌<◌, ◌≡◌, ◌==◌, ◌||◌, ⊤, ◌⊎◌, ◌↔◌, Bool, nat_lt, length, slice_index, ℤ, pos, ◌-ℤ◌, ◌*ℤ◌, ◌≤ℤ◌, unsigned_abs, Ok, Err, IsOk, IsErr, is_err, Option, Result, if◌then◌else◌}
 use Rattle.int_laws.specs.Sums.{sum_below}
 use Rattle.flex_interval.specs.Ends.{Ends}
 use Rattle.flex_interval.specs.Operations.{add_of, mul_of, middle_of, radius_of}
@@ -7,17 +7,17 @@ use Rattle.lists.specs.Results.{and_then}
 use Rattle.flex_interval.specs.declared.fault.IvFault.TheVariants.{Wide}
 use Rattle.member_set.specs.declared.members.Member.{Member}
 use Rattle.member_set.specs.declared.members.Built.{Built}
-use Rattle.member_set.specs.Members.{nothing, shape_at, member_of, members_at, built_nodes, row_count}
+use Rattle.member_set.specs.Members.{nothing, shape_at, member_of, members_at, built_nodes, row_count, touches}
 use Rattle.member_set.specs.Realisation.{Realisation}
-use Rattle.member_set.specs.Interval.{Outcome, in_turn}
+use Rattle.member_set.specs.Interval.{Outcome, found, in_turn}
+use Rattle.lists.specs.Results.{unless}
+use Rattle.lists.specs.Search.{any_below, first_below}
+use Rattle.int_laws.specs.Matrices.{Entries}
 use Rattle.sym_blocks.specs.Matrix.{Matrix, node_count as nodes_of, entry, HasBlock}
 use Rattle.assembly.specs.declared.fault.AssembleFault.{AssembleFault}
 use Rattle.assembly.specs.declared.fault.AssembleFault.TheVariants as faults
 
 -- ---- the enclosure of an entry
-
-abbrev pub touches : Member → ℕ → Bool
-touches m node = (m.n1 == node) || (m.n2 == node)
 
 -- what a member at a row's node gives to an entry of the row: kappa w_row w_col, and exactly 0 in a column of a node
 -- that it does not touch
@@ -44,6 +44,27 @@ upper_entry b row col = and_then (entry_sum b row col) limited_entry
 -- the entry in row i and column j
 abbrev pub stiffness_at : Built → ℕ → ℕ → Outcome
 stiffness_at b i j = if nat_lt j i then upper_entry b j i else upper_entry b i j
+
+-- ---- the matrix as functions of a row and a column
+
+-- the middle of each entry's enclosure, and its radius
+abbrev pub middle : Built → Entries
+middle b i j = middle_of (found (stiffness_at b i j))
+
+abbrev pub radius : Built → Entries
+radius b i j = radius_of (found (stiffness_at b i j))
+
+-- some entry of the row has no enclosure below its limit
+abbrev pub is_wide : Built → ℕ → Bool
+is_wide b row = any_below (row_count b) (λ col. is_err (stiffness_at b row col))
+
+-- the first row that is wide
+abbrev pub wide_row : Built → Option ℕ
+wide_row b = first_below (row_count b) (is_wide b)
+
+-- the middles and the radii of all entries, or the first row that is wide
+abbrev pub matrices_of : Built → Result (Entries × Entries) ℕ
+matrices_of b = unless (wide_row b) (middle b, radius b)
 
 -- ---- the two matrices
 

@@ -4,9 +4,9 @@ ghost use Rattle.flex_interval.specs.Fraction.{Within};
 ghost use Rattle.flex_interval.specs.Operations.{add_of, mul_of, middle_of, radius_of};
 ghost use Rattle.lists.specs.Results.{and_then};
 ghost use Rattle.member_set.specs.declared.members.Law.{Law};
-ghost use Rattle.member_set.specs.Members.{IsBuilt, shape_at, row_count, members_at, system};
+ghost use Rattle.member_set.specs.Members.{IsBuilt, shape_at, touches, row_count, members_at, system};
 ghost use Rattle.member_set.specs.Realisation.{Realisation, IsRealisation, fraction, every_member, exact_entry, entry_unit};
-ghost use Rattle.assembly.specs.Stiffness.{touches, member_entry, entry_sum, limited_entry, upper_entry};
+ghost use Rattle.assembly.specs.Stiffness.{member_entry, entry_sum, limited_entry, upper_entry};
 
 use flex_interval::{Iv, IvFault, middle, radius};
 use member_set::{Built, Member, faults_stay, members_at, shape};

@@ -17,10 +17,10 @@ use Rattle.member_set.specs.declared.members.Law.{Law}
 use Rattle.member_set.specs.declared.members.Built.{Built}
 use Rattle.member_set.specs.Members.{nothing, member_of, law_of, force_of, row_count, system, AreStiff}
 use Rattle.member_set.specs.Realisation.{Realisation, IsRealisation, IsEquilibrium, fraction, force_fraction, force_in}
-use Rattle.member_set.specs.Interval.{Outcome, limited_force, law_force_of, member_force_of, reach_of, AreForces}
+use Rattle.member_set.specs.Interval.{Outcome, found, limited_force, law_force_of, member_force_of, reach_of, AreForces}
 use Rattle.int_laws.specs.Matrices.{Vector}
 use Rattle.bound_laws.specs.Nearness.{StiffnessMatrixExists, EquilibriaAreNear, NearIsEnclosed, RoundedRadiiAreEnough, NoNegativeStiffness, IsResidualLength, AreForcesWithin, greater_size, widened, alone, displacement_radius_of, force_radius_of}
-use Rattle.certificate.specs.Bounds.{IsDefiniteRealisation, found, EnclosesEquilibrium}
+use Rattle.certificate.specs.Bounds.{IsDefiniteRealisation, EnclosesEquilibrium}
 use Rattle.certificate.specs.Widening.{only, IsLimited, AreLimited, AreAroundDisplacements, AreWidened}
 
 -- ---- forces are limited

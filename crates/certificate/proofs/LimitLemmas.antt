@@ -6,11 +6,11 @@ use Rattle.int_laws.proofs.Sums.{int_sums}
 use Rattle.flex_interval.specs.Ends.{Ends}
 use Rattle.member_set.specs.declared.members.Built.{Built}
 use Rattle.member_set.specs.declared.members.Law.{Law}
-use Rattle.member_set.specs.Interval.{Outcome, forces_of}
+use Rattle.member_set.specs.Interval.{Outcome, found, forces_of}
 use Rattle.member_set.specs.Members.{IsModerate, member_of, law_of, nothing, row_count, system}
 use Rattle.bound_laws.specs.Nearness.{RadiiAreNotNegative, alone, widened}
 use Rattle.certificate.specs.declared.bounds.Enclosure.{Enclosure}
-use Rattle.certificate.specs.Bounds.{AreBounds, HasLimitedEnds, BoundsAreLimited, displacement_radius, force_radius, found, sum_of_squares}
+use Rattle.certificate.specs.Bounds.{AreBounds, HasLimitedEnds, BoundsAreLimited, displacement_radius, force_radius, sum_of_squares}
 use Rattle.certificate.specs.Widening.{IsLimited}
 use Rattle.certificate.proofs.BoundsLemmas.{member_limited}
 

@@ -1,12 +1,15 @@
 -- The bounds that are computed of every equilibrium: given displacements u and the members' forces there, each wider by a
 -- radius. The radii come from lambda and from the length of what u leaves of the loads, by the law of certified bounds.
-use Rattle.std.specs.Prelude.{ℕ, ◌^◌, ◌<◌, ◌≡◌, List, [], length, slice_index_or, ℤ, pos, ◌≤ℤ◌, ◌<ℤ◌, unsigned_abs, All, Ok, Err, IsOk, IsErr}
+use Rattle.std.specs.Prelude.{ℕ, ◌^◌, ◌<◌, ◌≡◌, List, [], length, slice_index_or, ℤ, pos, ◌≤ℤ◌, ◌<ℤ◌, unsigned_abs, All, Ok, Err, IsOk, IsErr, is_err, Bool, ◌||◌, Result, if◌then◌else◌, int_le}
 use Rattle.int_laws.specs.Root.{root_up_of}
+use Rattle.lists.specs.Listed.{listed}
+use Rattle.lists.specs.Search.{any_below}
+use Rattle.flex_interval.specs.declared.fault.Wide.{Wide}
 use Rattle.flex_interval.specs.Ends.{Ends}
 use Rattle.flex_interval.specs.Fraction.{Within}
 use Rattle.member_set.specs.Members.{nothing, member_of, force_of, row_count, IsModerate, System}
 use Rattle.member_set.specs.Realisation.{Realisation, force_in, fraction, force_fraction}
-use Rattle.member_set.specs.Interval.{Outcome, forces_of, residual_of}
+use Rattle.member_set.specs.Interval.{found, forces_of, residual_of}
 use Rattle.certificate.specs.declared.bounds.Enclosure.{Enclosure}
 use Rattle.int_laws.specs.Matrices.{Vector, squared_norm}
 use Rattle.bound_laws.specs.Definiteness.{SymmetricFractions, IsDefiniteWith}
@@ -19,11 +22,6 @@ abbrev pub IsDefiniteRealisation : Realisation → ℤ → Type 0
 IsDefiniteRealisation r lambda = (k : SymmetricFractions r.rows) → IsStiffnessMatrix r k → IsDefiniteWith r.rows lambda k
 
 -- ---- what displacements u leave of the loads, in units of 2^-40 N or N m
-
--- the interval of an outcome, 0 where there is none
-abbrev pub found : Outcome → Ends
-found (Ok e) = e
-found (Err _) = nothing
 
 -- the interval of what is left of a row's load
 abbrev pub residual_at : System → List ℤ → ℕ → Ends
@@ -60,6 +58,28 @@ pub record HasBounds (s : System) (u : List ℤ) (lambda : ℤ) : Type 0 where
   pub short : sum_of_squares s u <ℤ pos (2 ^ 126)
   pub near : displacement_radius s u lambda <ℤ pos (2 ^ 60)
   pub steady : (k : ℕ) → k < length s.structure.members → force_radius s u lambda k <ℤ pos (2 ^ 60)
+
+-- some interval isn't there, or some number reaches its limit
+abbrev pub bounds_fail : System → List ℤ → ℤ → Bool
+bounds_fail s u lambda =
+    any_below (row_count s.structure) (λ row. is_err (residual_of s u row))
+    || (any_below (length s.structure.members) (λ k. is_err (forces_of s.structure s.laws u k))
+    || (int_le (pos (2 ^ 126)) (sum_of_squares s u)
+    || (int_le (pos (2 ^ 60)) (displacement_radius s u lambda)
+    || any_below (length s.structure.members) (λ k. int_le (pos (2 ^ 60)) (force_radius s u lambda k)))))
+
+-- each displacement of u, and each member's force there, wider by its radius on both sides; no member has a state
+abbrev pub enclosure_of : System → List ℤ → ℤ → Enclosure
+enclosure_of s u lambda =
+    record {
+      u = listed (row_count s.structure) (λ row. widened (alone (slice_index_or u row (pos 0))) (displacement_radius s u lambda));
+      force = listed (length s.structure.members) (λ k. widened (found (forces_of s.structure s.laws u k)) (force_radius s u lambda k));
+      closed = [];
+    }
+
+-- the bounds around displacements u, where there are any
+abbrev pub bounds_around : System → List ℤ → ℤ → Result Enclosure Wide
+bounds_around s u lambda = if bounds_fail s u lambda then Err (record {}) else Ok (enclosure_of s u lambda)
 
 -- each displacement of u, and each member's force there, wider by its radius on both sides; no member has a state
 pub record AreBounds (s : System) (u : List ℤ) (lambda : ℤ) (e : Enclosure) : Type 0 where

@@ -13,6 +13,11 @@ abbrev pub first_below : ℕ → (ℕ → Bool) → Option ℕ
 first_below zero test = None
 first_below (suc n) test = option_or (first_below n test) (if test n then Some n else None)
 
+-- the greatest number up to n at which a test holds; 0 where there is none
+abbrev pub greatest_to : ℕ → (ℕ → Bool) → ℕ
+greatest_to zero test = 0
+greatest_to (suc n) test = if test (suc n) then suc n else greatest_to n test
+
 -- the least of f 0 to f (n - 1); f 0 where n is 0
 abbrev pub least_below : ℕ → (ℕ → ℤ) → ℤ
 least_below zero f = f 0

@@ -1,5 +1,5 @@
 -- The loads of a case: for each row the sum of the forces on it. Loads are in units of 2^-40 N or N m.
-use Rattle.std.specs.Prelude.{◌≡◌, ℕ, ◌*◌, ◌/◌, ◌%◌, ◌^◌, ◌<◌, ◌==◌, ◌&&◌, List, [], length, Ok, IsOk, IsErr, ℤ, pos, ◌*ℤ◌, Bool, false, if◌then◌else◌}
+use Rattle.std.specs.Prelude.{◌≡◌, ℕ, ◌*◌, ◌/◌, ◌%◌, ◌^◌, ◌<◌, ◌==◌, ◌&&◌, List, [], length, Result, Ok, IsOk, IsErr, is_err, ℤ, pos, ◌*ℤ◌, Bool, false, if◌then◌else◌}
 use Rattle.std.specs.List.{slice_index_or}
 use Rattle.int_laws.specs.Sums.{sum_below}
 use Rattle.flex_interval.specs.Ends.{Ends}
@@ -7,7 +7,10 @@ use Rattle.flex_interval.specs.Fraction.{Fraction, Within}
 use Rattle.flex_interval.specs.Operations.{point_of, add_of, ratio_of}
 use Rattle.lists.specs.Results.{and_then}
 use Rattle.member_set.specs.Members.{nothing, load_of}
-use Rattle.member_set.specs.Interval.{Outcome, in_turn, limited_force}
+use Rattle.lists.specs.Listed.{listed}
+use Rattle.lists.specs.Results.{unless}
+use Rattle.lists.specs.Search.{first_below}
+use Rattle.member_set.specs.Interval.{Outcome, found, in_turn, limited_force}
 use Rattle.model_types.specs.Lists.{Lists}
 use Rattle.model_types.specs.declared.records.Case.{Case}
 use Rattle.model_types.specs.declared.records.Force.{Force}
@@ -43,6 +46,11 @@ load_term m case row t = ratio_of (point_of (force_on m case row t)) (pos (2 ^ 4
 -- the load of a row: the sum over the forces in order, below 2^66 in size
 unfoldable pub row_load : Lists → ℕ → ℕ → Outcome
 row_load m case row = and_then (in_turn add_of nothing (load_term m case row) (length m.forces)) limited_force
+
+-- the loads of all rows, or the first row that has none within its limit
+abbrev pub loads_of : Lists → ℕ → Result (List Ends) ℕ
+loads_of m case =
+    unless (first_below (6 * length m.nodes) (λ row. is_err (row_load m case row))) (listed (6 * length m.nodes) (λ row. found (row_load m case row)))
 
 -- the loads of all rows
 pub record AreLoads (m : Lists) (case : ℕ) (loads : List Ends) : Type 0 where

@@ -15,6 +15,11 @@ use Rattle.member_set.specs.Members.{nothing, shape_at, member_of, law_of, load_
 abbrev pub Outcome : Type 0
 Outcome = Result Ends IvFault
 
+-- the interval of an outcome; that of 0 alone where there is none
+abbrev pub found : Outcome → Ends
+found (Ok e) = e
+found (Err _) = nothing
+
 -- the first n terms, one after the other, added to a start or taken from it
 abbrev pub in_turn : (Ends → Ends → Outcome) → Ends → (ℕ → Outcome) → ℕ → Outcome
 in_turn step start term zero = Ok start

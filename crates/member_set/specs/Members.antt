@@ -1,5 +1,5 @@
 -- Members, their nodes and their rows. Freedom f of node n, `ux uy uz rx ry rz`, has row `6 n + f`.
-use Rattle.std.specs.Prelude.{ℕ, ◌+◌, ◌*◌, ◌/◌, ◌%◌, ◌<◌, ◌≡◌, ◌==◌, ◌⊎◌, ◌↔◌, List, [], length, slice_index_or, Contains, AllPairs, ℤ, pos, ◌≤ℤ◌, ◌<ℤ◌, if◌then◌else◌, All, unsigned_abs, ◌≤◌, ◌^◌}
+use Rattle.std.specs.Prelude.{ℕ, ◌+◌, ◌*◌, ◌/◌, ◌%◌, ◌<◌, ◌≡◌, ◌==◌, ◌||◌, Bool, ◌⊎◌, ◌↔◌, List, [], length, slice_index_or, Contains, AllPairs, ℤ, pos, ◌≤ℤ◌, ◌<ℤ◌, if◌then◌else◌, All, unsigned_abs, ◌≤◌, ◌^◌}
 use Rattle.flex_interval.specs.Ends.{Ends}
 use Rattle.member_set.specs.declared.members.Member.{Member}
 use Rattle.member_set.specs.declared.members.Law.{Law}
@@ -20,6 +20,9 @@ shape_at m row =
 -- the node is one of the member's
 abbrev pub Touches : Member → ℕ → Type 0
 Touches m node = (m.n1 ≡ node) ⊎ (m.n2 ≡ node)
+
+abbrev pub touches : Member → ℕ → Bool
+touches m node = (m.n1 == node) || (m.n2 == node)
 
 -- the reach at which the force of a law begins
 abbrev pub start_of : Law → Ends

@@ -1,3 +1,4 @@
 pub mod Substitution
 pub mod Refinement
 pub mod Numerators
+pub mod Turns

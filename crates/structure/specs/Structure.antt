@@ -1,10 +1,12 @@
 -- The structure of a model: its members, element by element and then restraint by restraint.
-use Rattle.std.specs.Prelude.{◌≡◌, ℕ, zero, suc, ◌^◌, ◌<◌, List, [], ◌++◌, length, Result, Ok, Err, pos, ◌≤ℤ◌, ◌<ℤ◌}
-use Rattle.std.specs.List.{flat_map}
+use Rattle.std.specs.Prelude.{◌≡◌, ℕ, zero, suc, ◌^◌, ◌<◌, List, [], ◌++◌, length, slice_index_or, filter, Result, Ok, Err, pos, ◌≤ℤ◌, ◌<ℤ◌}
+use Rattle.std.specs.List.{flat_map, range_with_len}
+use Rattle.lists.specs.Listed.{listed}
+use Rattle.lists.specs.Results.{and_then}
 use Rattle.flex_interval.specs.declared.fault.Wide.{Wide}
 use Rattle.member_set.specs.declared.members.Member.{Member}
 use Rattle.member_set.specs.declared.members.Built.{Built}
-use Rattle.member_set.specs.Members.{IsBuilt, member_of, built_nodes}
+use Rattle.member_set.specs.Members.{IsBuilt, member_of, built_nodes, no_member, touches}
 use Rattle.model_types.specs.Lists.{Lists}
 use Rattle.structure.specs.Elements.{members_of_element, element_at}
 use Rattle.structure.specs.Anchors.{restraint_members}
@@ -31,6 +33,18 @@ element_members m (suc n) = then_members (element_members m n) (with_element n (
 -- the members of a model: of its elements in order, then of its restraints in order
 unfoldable pub model_members : Lists → Members
 model_members m = then_members (element_members m (length m.elements)) (λ members. Ok (members ++ flat_map restraint_members m.restraints))
+
+-- the numbers of the members that touch a node, rising
+abbrev pub touching_numbers : List Member → ℕ → List ℕ
+touching_numbers members node = filter (λ k. touches (slice_index_or members k no_member) node) (range_with_len 0 (length members))
+
+-- linear members between so many nodes; stations are left out
+abbrev pub linear_structure : ℕ → List Member → Built
+linear_structure nodes members = record { members = members; unilateral = []; stations = []; at = listed nodes (touching_numbers members) }
+
+-- the structure of a model, or the number of the first element that leaves its limits
+abbrev pub structure_of : Lists → Result Built ℕ
+structure_of m = and_then (model_members m) (λ members. Ok (linear_structure (length m.nodes) members))
 
 -- the structure of a model, all of whose members are linear; stations are left out
 pub record IsStructureOf (m : Lists) (b : Built) : Type 0 where

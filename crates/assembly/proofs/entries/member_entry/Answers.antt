@@ -1,5 +1,5 @@
 use Rattle.std.proofs.Common.{◌≡◌, ◌/◌, false, sym, ◌∙◌}
-use Rattle.assembly.specs.Stiffness.{touches}
+use Rattle.member_set.specs.Members.{touches}
 use Rattle.assembly.proofs.Outside.{untouched}
 use Rattle.assembly.proofs.entries.member_entry.Goals as goal
 
