@@ -7,7 +7,6 @@ use Rattle.flex_interval.specs.declared.fault.IvFault.TheVariants.{Wide}
 use Rattle.member_set.specs.declared.members.Member.{Member}
 use Rattle.member_set.specs.declared.members.Built.{Built}
 use Rattle.member_set.specs.Members.{nothing, shape_at, member_of, members_at, node_count, row_count}
-use Rattle.member_set.specs.Realisation.{Realisation}
 use Rattle.member_set.specs.Interval.{Outcome, in_turn}
 use Rattle.sym_blocks.specs.Matrix.{Matrix, node_count as nodes_of, entry, HasBlock}
 use Rattle.assembly.specs.declared.fault.AssembleFault.{AssembleFault}
