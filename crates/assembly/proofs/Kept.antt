@@ -10,8 +10,8 @@ use Rattle.flex_interval.specs.Ends.{Ends}
 use Rattle.flex_interval.specs.Fraction.{Within}
 use Rattle.member_set.specs.declared.members.Built.{Built}
 use Rattle.member_set.specs.declared.members.Law.{Law}
-use Rattle.member_set.specs.Members.{IsBuilt, built_nodes, system}
-use Rattle.member_set.specs.Realisation.{Realisation, IsRealisation, fraction, every_member, exact_entry, entry_unit}
+use Rattle.member_set.specs.Members.{IsBuilt, built_nodes}
+use Rattle.member_set.specs.Realisation.{fraction, every_member, exact_entry, entry_unit, Stiffness, IsStiffnessOf}
 use Rattle.sym_blocks.specs.Matrix.{Matrix, entry}
 use Rattle.assembly.specs.Stiffness.{HasPatternOf, AreJoined, upper_entry, IsWithinRadius}
 use Rattle.flex_interval.specs.Operations.{middle_of, radius_of}
@@ -28,14 +28,14 @@ near_of e exact unit v w floor is within =
 
 pub filled_from : (b : Built) (km rd km_new rd_new : Matrix) (row col : ℕ) (v w : ℤ) (e : Ends) → upper_entry b row col ≡ Ok e →
     IsFloor (e.lo +ℤ e.hi) (pos 2) v → v ≡ middle_of e → w ≡ radius_of e →
-    ((laws : List Law) (loads : List Ends) (r : Realisation) → IsRealisation (system b laws loads) r → Within e (fraction (exact_entry every_member r row col) (entry_unit r.denominator))) →
+    ((laws : List Law) (s : Stiffness) → IsStiffnessOf b laws s → Within e (fraction (exact_entry every_member s row col) (entry_unit s.denominator))) →
     pos 0 ≤ℤ w → PutsAt km km_new row col v → PutsAt rd rd_new row col w → IsFilled b km_new rd_new row col
 filled_from b km rd km_new rd_new row col v w e is floor middle radius within not_negative puts puts_too =
     record {
       are = record { enclosure = e; value = is; middle_is = puts.place ∙ middle; radius_is = puts_too.place ∙ radius };
-      near = λ laws loads r real.
+      near = λ laws s real.
           rw (puts.place, puts_too.place)
-          (near_of e (exact_entry every_member r row col) (entry_unit r.denominator) v w floor (radius ∙ ap (λ (z : ℤ). e.hi -ℤ z) (sym middle)) (within laws loads r real));
+          (near_of e (exact_entry every_member s row col) (entry_unit s.denominator) v w floor (radius ∙ ap (λ (z : ℤ). e.hi -ℤ z) (sym middle)) (within laws s real));
       not_negative = rw puts_too.place not_negative;
     }
 

@@ -10,7 +10,7 @@ use Rattle.int_laws.specs.Division.{floor_of}
 use Rattle.flex_interval.specs.Operations.{add_of}
 use Rattle.member_set.specs.declared.members.Member.{Member}
 use Rattle.member_set.specs.declared.members.Built.{Built}
-use Rattle.member_set.specs.Members.{nothing, Touches, IsBuilt, row_count, built_nodes, member_of, members_at, system, touches}
+use Rattle.member_set.specs.Members.{nothing, Touches, IsBuilt, row_count, built_nodes, member_of, members_at, touches}
 use Rattle.member_set.specs.Interval.{Outcome, in_turn}
 use Rattle.int_laws.proofs.Sums.{int_sums}
 use Rattle.int_laws.proofs.Products.{between_zeros, mul_turn, zero-mul, mul_comm, mul_swap}
@@ -18,7 +18,7 @@ use Rattle.int_laws.proofs.SumLaws.{sum_below-zero, sum_below-same}
 use Rattle.std.proofs.Common.{ℤ, pos, ◌*ℤ◌, ◌≤ℤ◌}
 use Rattle.flex_interval.specs.Ends.{Ends}
 use Rattle.member_set.specs.declared.members.Law.{Law}
-use Rattle.member_set.specs.Realisation.{Realisation, IsRealisation, every_member, exact_entry, entry_unit}
+use Rattle.member_set.specs.Realisation.{Stiffness, IsStiffnessOf, every_member, exact_entry, entry_unit}
 use Rattle.sym_blocks.specs.Matrix.{entry, node_count as nodes_of, IsSymmetricByBlocks}
 use Rattle.assembly.proofs.Outside.{off_node, product_zero}
 use Rattle.assembly.specs.Stiffness.{AreAssembled, IsWithinRadius}
@@ -110,18 +110,18 @@ pub on_err : {T E : Type 0} (r : Result T E) (P : Type 0) → is_err r ≡ true 
 on_err (Ok t) P e h = grind arith
 on_err (Err x) P e h = h
 
-exact_zero : (b : Built) → IsBuilt b → (laws : List Law) (loads : List Ends) (r : Realisation) → IsRealisation (system b laws loads) r → (i j : ℕ) → i / 6 < built_nodes b →
-    (AreJoined b (i / 6) (j / 6) → ⊥) → exact_entry every_member r i j ≡ pos 0
-exact_zero b built laws loads r real i j node_inside apart =
-    sum_below-zero r.members _
+exact_zero : (b : Built) → IsBuilt b → (laws : List Law) (s : Stiffness) → IsStiffnessOf b laws s → (i j : ℕ) → i / 6 < built_nodes b →
+    (AreJoined b (i / 6) (j / 6) → ⊥) → exact_entry every_member s i j ≡ pos 0
+exact_zero b built laws s real i j node_inside apart =
+    sum_below-zero s.members _
     (λ k inside.
     let within = real.member_within k inside in
-    let touched : Touches (member_of b k) (i / 6) → (r.member k).shape i *ℤ ((r.member k).stiffness *ℤ (r.member k).shape j) ≡ pos 0 =
+    let touched : Touches (member_of b k) (i / 6) → (s.member k).shape i *ℤ ((s.member k).stiffness *ℤ (s.member k).shape j) ≡ pos 0 =
     λ touch.
     let off = not_touching (member_of b k) (i / 6) (j / 6) (λ joins. apart (inr (k, omega (arith, real.all_members, inside), joins))) touch (λ e. apart (inl (e, node_inside))) in
     let w = rw (off_node (member_of b k) j off) at (within.shape_within j) in
-    let none = between_zeros ((r.member k).shape j) r.denominator w.at_least w.at_most in
-    ap (λ (z : ℤ). (r.member k).shape i *ℤ ((r.member k).stiffness *ℤ z)) none ∙ product_zero ((r.member k).shape i) (r.member k).stiffness in
+    let none = between_zeros ((s.member k).shape j) s.denominator w.at_least w.at_most in
+    ap (λ (z : ℤ). (s.member k).shape i *ℤ ((s.member k).stiffness *ℤ z)) none ∙ product_zero ((s.member k).shape i) (s.member k).stiffness in
     let first : ((member_of b k).n1 ≡ i / 6) ⊎ ((member_of b k).n1 ≢ i / 6) = search arith in
     let second : ((member_of b k).n2 ≡ i / 6) ⊎ ((member_of b k).n2 ≢ i / 6) = search arith in
     elim first [
@@ -131,8 +131,8 @@ exact_zero b built laws loads r real i j node_inside apart =
         | inr not_second ↦
             let off = not_of (member_of b k) (i / 6) not_first not_second in
             let w = rw (off_node (member_of b k) i off) at (within.shape_within i) in
-            let none = between_zeros ((r.member k).shape i) r.denominator w.at_least w.at_most in
-            ap (λ (z : ℤ). z *ℤ ((r.member k).stiffness *ℤ (r.member k).shape j)) none ∙ zero-mul ((r.member k).stiffness *ℤ (r.member k).shape j)
+            let none = between_zeros ((s.member k).shape i) s.denominator w.at_least w.at_most in
+            ap (λ (z : ℤ). z *ℤ ((s.member k).stiffness *ℤ (s.member k).shape j)) none ∙ zero-mul ((s.member k).stiffness *ℤ (s.member k).shape j)
       ]
     ])
 
@@ -151,14 +151,14 @@ filled_all b built km rd middles radii pattern pattern_too i j inside filled =
           let none_too = radii.outside i j (λ has. apart ((pattern_too (i / 6) (j / 6)).0 has)) in
           record {
             are = record { enclosure = nothing; value = outside_value b built i j (omega arith) apart; middle_is = none; radius_is = none_too };
-            near = λ laws loads r real. rw (none, none_too, exact_zero b built laws loads r real i j (omega arith) apart) (near_zero (entry_unit r.denominator));
+            near = λ laws s real. rw (none, none_too, exact_zero b built laws s real i j (omega arith) apart) (near_zero (entry_unit s.denominator));
             not_negative = rw none_too (omega (arith, int_sums));
           }
     ]
 
-exact_symmetric : (r : Realisation) (i j : ℕ) → exact_entry every_member r i j ≡ exact_entry every_member r j i
-exact_symmetric r i j =
-    sum_below-same r.members _ _ (λ k inside. mul_turn ((r.member k).shape i) (r.member k).stiffness ((r.member k).shape j))
+exact_symmetric : (s : Stiffness) (i j : ℕ) → exact_entry every_member s i j ≡ exact_entry every_member s j i
+exact_symmetric s i j =
+    sum_below-same s.members _ _ (λ k inside. mul_turn ((s.member k).shape i) (s.member k).stiffness ((s.member k).shape j))
 
 -- a node that is joined is there
 node_there : (b : Built) (n k : ℕ) → IsBuilt b → AreJoined b n k → n < built_nodes b
@@ -197,14 +197,14 @@ assembled b built km rd middles radii pattern pattern_too filled =
 
 pub all_near : (b : Built) → IsBuilt b → (km rd : Matrix) → IsSymmetricByBlocks km → IsSymmetricByBlocks rd → HasPatternOf km b → HasPatternOf rd b →
     ((i j : ℕ) → i < row_count b → i ≤ j → HasBlock km (i / 6) (j / 6) → IsFilled b km rd i j) →
-    (laws : List Law) (loads : List Ends) (r : Realisation) → IsRealisation (system b laws loads) r → (i j : ℕ) → i < row_count b → j < row_count b →
-    IsWithinRadius (entry_unit r.denominator) (exact_entry every_member r i j) (entry km i j) (entry rd i j)
-all_near b built km rd middles radii pattern pattern_too filled laws loads r real i j i_inside j_inside =
+    (laws : List Law) (s : Stiffness) → IsStiffnessOf b laws s → (i j : ℕ) → i < row_count b → j < row_count b →
+    IsWithinRadius (entry_unit s.denominator) (exact_entry every_member s i j) (entry km i j) (entry rd i j)
+all_near b built km rd middles radii pattern pattern_too filled laws s real i j i_inside j_inside =
     let side : (i ≤ j) ⊎ (j < i) = search arith in
     elim side [
-      | inl up ↦ (filled_all b built km rd middles radii pattern pattern_too i j i_inside (filled i j i_inside up)).near laws loads r real
-      | inr down ↦ rw (exact_symmetric r i j, middles.symmetric i j, radii.symmetric i j)
-          ((filled_all b built km rd middles radii pattern pattern_too j i j_inside (filled j i j_inside (omega arith))).near laws loads r real)
+      | inl up ↦ (filled_all b built km rd middles radii pattern pattern_too i j i_inside (filled i j i_inside up)).near laws s real
+      | inr down ↦ rw (exact_symmetric s i j, middles.symmetric i j, radii.symmetric i j)
+          ((filled_all b built km rd middles radii pattern pattern_too j i j_inside (filled j i j_inside (omega arith))).near laws s real)
     ]
 
 pub all_not_negative : (b : Built) → IsBuilt b → (km rd : Matrix) → IsSymmetricByBlocks km → IsSymmetricByBlocks rd → HasPatternOf km b → HasPatternOf rd b →

@@ -1,10 +1,9 @@
 -- How the two matrices are filled, entry by entry.
 use Rattle.std.specs.Prelude.{ℕ, ◌<◌, ◌≤◌, ◌≡◌, List, ℤ, pos, ◌≤ℤ◌, IsErr}
-use Rattle.flex_interval.specs.Ends.{Ends}
 use Rattle.member_set.specs.declared.members.Built.{Built}
 use Rattle.member_set.specs.declared.members.Law.{Law}
-use Rattle.member_set.specs.Members.{row_count, system}
-use Rattle.member_set.specs.Realisation.{Realisation, IsRealisation, every_member, exact_entry, entry_unit}
+use Rattle.member_set.specs.Members.{row_count}
+use Rattle.member_set.specs.Realisation.{Stiffness, IsStiffnessOf, every_member, exact_entry, entry_unit}
 use Rattle.sym_blocks.specs.Matrix.{Matrix, entry}
 use Rattle.assembly.specs.Stiffness.{AreOf, upper_entry, IsWithinRadius}
 
@@ -14,10 +13,10 @@ pub record PutsAt (old new : Matrix) (row col : ℕ) (v : ℤ) : Type 0 where
   pub place : entry new row col ≡ v
   pub others : (i j : ℕ) → ((i ≡ row) × (j ≡ col) → ⊥) → ((i ≡ col) × (j ≡ row) → ⊥) → entry new i j ≡ entry old i j
 
--- the entry of each realisation is near
+-- the entry of each stiffness is near
 abbrev pub AreNear : Built → ℕ → ℕ → ℤ → ℤ → Type 0
-AreNear b i j middle radius = (laws : List Law) (loads : List Ends) (r : Realisation) → IsRealisation (system b laws loads) r →
-    IsWithinRadius (entry_unit r.denominator) (exact_entry every_member r i j) middle radius
+AreNear b i j middle radius = (laws : List Law) (s : Stiffness) → IsStiffnessOf b laws s →
+    IsWithinRadius (entry_unit s.denominator) (exact_entry every_member s i j) middle radius
 
 -- the middle and the radius of an entry stand in the matrices; the radius is not below 0
 pub record IsFilled (b : Built) (middles radii : Matrix) (i j : ℕ) : Type 0 where

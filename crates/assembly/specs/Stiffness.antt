@@ -8,7 +8,6 @@ use Rattle.flex_interval.specs.declared.fault.IvFault.TheVariants.{Wide}
 use Rattle.member_set.specs.declared.members.Member.{Member}
 use Rattle.member_set.specs.declared.members.Built.{Built}
 use Rattle.member_set.specs.Members.{nothing, shape_at, member_of, members_at, built_nodes, row_count, touches}
-use Rattle.member_set.specs.Realisation.{Realisation}
 use Rattle.member_set.specs.Interval.{Outcome, found, in_turn}
 use Rattle.lists.specs.Results.{unless}
 use Rattle.lists.specs.Search.{any_below, first_below}

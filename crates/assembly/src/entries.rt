@@ -1,11 +1,10 @@
 ghost use Rattle.std.specs.Prelude.{◌≡◌, ℕ, ◌+◌, ◌/◌, ◌^◌, ◌<◌, length, slice_index, ℤ, pos, ◌+ℤ◌, ◌-ℤ◌, ◌*ℤ◌, ◌≤ℤ◌, ◌<ℤ◌, unsigned_abs, IfOk, List};
-ghost use Rattle.flex_interval.specs.Ends.{Ends};
 ghost use Rattle.flex_interval.specs.Fraction.{Within};
 ghost use Rattle.flex_interval.specs.Operations.{add_of, mul_of, middle_of, radius_of};
 ghost use Rattle.lists.specs.Results.{and_then};
 ghost use Rattle.member_set.specs.declared.members.Law.{Law};
-ghost use Rattle.member_set.specs.Members.{IsBuilt, shape_at, touches, row_count, members_at, system};
-ghost use Rattle.member_set.specs.Realisation.{Realisation, IsRealisation, fraction, every_member, exact_entry, entry_unit};
+ghost use Rattle.member_set.specs.Members.{IsBuilt, shape_at, touches, row_count, members_at};
+ghost use Rattle.member_set.specs.Realisation.{fraction, every_member, exact_entry, entry_unit, Stiffness, IsStiffnessOf};
 ghost use Rattle.assembly.specs.Stiffness.{member_entry, entry_sum, limited_entry, upper_entry};
 
 use flex_interval::{Iv, IvFault, middle, radius};
@@ -20,8 +19,8 @@ pub(crate) fn upper_entry(b: &Built, row: u32, col: u32) -> Result<Iv, IvFault>
     requires built { IsBuilt b.now }
     requires row_in_range { row < row_count b.now }
     ensures value { result ≡ upper_entry b.now row col }
-    ensures within { IfOk result (λ e. (laws : List Law) (loads : List Ends) (r : Realisation) → IsRealisation (system b.now laws loads) r →
-        Within e (fraction (exact_entry every_member r row col) (entry_unit r.denominator))) }
+    ensures within { IfOk result (λ e. (laws : List Law) (s : Stiffness) → IsStiffnessOf b.now laws s →
+        Within e (fraction (exact_entry every_member s row col) (entry_unit s.denominator))) }
 {
     limited(entry_sum(b, row, col)?)
 }
@@ -43,8 +42,8 @@ fn entry_sum(b: &Built, row: u32, col: u32) -> Result<Iv, IvFault>
     requires built { IsBuilt b.now }
     requires row_in_range { row < row_count b.now }
     ensures value { result ≡ entry_sum b.now row col }
-    ensures within { IfOk result (λ e. (laws : List Law) (loads : List Ends) (r : Realisation) → IsRealisation (system b.now laws loads) r →
-        Within e (fraction (exact_entry every_member r row col) (entry_unit r.denominator))) }
+    ensures within { IfOk result (λ e. (laws : List Law) (s : Stiffness) → IsStiffnessOf b.now laws s →
+        Within e (fraction (exact_entry every_member s row col) (entry_unit s.denominator))) }
 {
     faults_stay();
     let mut total = flex_interval::point(0);

@@ -1,8 +1,7 @@
 ghost use Rattle.std.specs.Prelude.{◌≡◌, ℕ, ◌<◌, [], length, IfOk, IfErr, map, List, pos, ◌≤ℤ◌};
-ghost use Rattle.flex_interval.specs.Ends.{Ends};
 ghost use Rattle.member_set.specs.declared.members.Law.{Law};
-ghost use Rattle.member_set.specs.Members.{IsBuilt, row_count, system};
-ghost use Rattle.member_set.specs.Realisation.{Realisation, IsRealisation, every_member, exact_entry, entry_unit};
+ghost use Rattle.member_set.specs.Members.{IsBuilt, row_count};
+ghost use Rattle.member_set.specs.Realisation.{Stiffness, IsStiffnessOf, every_member, exact_entry, entry_unit};
 ghost use Rattle.sym_blocks.specs.Matrix.{entry};
 ghost use Rattle.assembly.specs.Stiffness.{AreAssembled, NamesFirstWide, IsWithinRadius};
 
@@ -23,9 +22,9 @@ pub fn assemble(
     requires all_linear { b.now.unilateral ≡ [] }
     requires no_states { _closed.now ≡ [] }
     ensures matrices { IfOk result (λ m. AreAssembled b.now m.0 m.1) }
-    ensures within { IfOk result (λ m. (laws : List Law) (loads : List Ends) (r : Realisation) → IsRealisation (system b.now laws loads) r →
+    ensures within { IfOk result (λ m. (laws : List Law) (s : Stiffness) → IsStiffnessOf b.now laws s →
         (i j : ℕ) → i < row_count b.now → j < row_count b.now →
-        IsWithinRadius (entry_unit r.denominator) (exact_entry every_member r i j) (entry m.0 i j) (entry m.1 i j)) }
+        IsWithinRadius (entry_unit s.denominator) (exact_entry every_member s i j) (entry m.0 i j) (entry m.1 i j)) }
     ensures radii { IfOk result (λ m. (i j : ℕ) → i < row_count b.now → j < row_count b.now → pos 0 ≤ℤ entry m.1 i j) }
     ensures fault { IfErr result (λ f. NamesFirstWide b.now f) }
 {

@@ -1,16 +1,17 @@
 -- Why every equilibrium is near: with e its distance from the given displacements and r what these leave of the loads, the
--- work e.r is the sum of the members' K s^2, which is at least lambda |e|^2 and at least each member's own part.
-use Rattle.std.proofs.Common.{◌≡◌, ℕ, zero, suc, ◌<◌, ◌^◌, refl, sym, ◌∙◌, ap, subst, arith, List, ℤ, pos, ◌+ℤ◌, ◌-ℤ◌, ◌*ℤ◌, ◌≤ℤ◌, ◌<ℤ◌, inl, inr}
+-- work e.r is the sum of the members' K s d, with s the change of a member's stretch and d that of its reach. That is at least
+-- lambda |e|^2 and at least each member's own K s^2, by what every law keeps of s and d.
+use Rattle.std.proofs.Common.{if◌then◌else◌, Bool, true, false, ◌≡◌, ℕ, zero, suc, ◌<◌, ◌^◌, refl, sym, ◌∙◌, ap, subst, arith, List, ℤ, pos, ◌+ℤ◌, ◌-ℤ◌, ◌*ℤ◌, ◌≤ℤ◌, ◌<ℤ◌, inl, inr}
 use Rattle.std.proofs.lemmas.Int.{ints}
 use Rattle.std.proofs.lemmas.Bool.{cases_eq}
 use Rattle.int_laws.specs.Sums.{sum_below}
 use Rattle.int_laws.proofs.Sums.{int_sums}
 use Rattle.int_laws.proofs.Products.{mul_turn, mul-add, sub-mul, mul-sub, zero-mul, mul_comm, mul_assoc, mul_swap, square_nonnegative, mul_nonnegative, mul_positive, le_mul}
-use Rattle.int_laws.proofs.SumLaws.{sum_below-same, sum_below-sub, sum_below-mul, sum_below-swap, sum_below-nonnegative}
+use Rattle.int_laws.proofs.SumLaws.{sum_below-same, sum_below-sub, sum_below-mul, sum_below-swap, sum_below-le, sum_below-nonnegative}
 use Rattle.flex_interval.specs.Ends.{Ends}
 use Rattle.flex_interval.specs.Fraction.{Within}
 use Rattle.member_set.specs.Members.{member_of}
-use Rattle.member_set.specs.Realisation.{entry_unit, every_member, exact_entry, ExactLaw, linear, ExactMember, Realisation, IsEquilibrium, stretch, exact_reach, force_in, resistance, exact_load, displaced, fraction}
+use Rattle.member_set.specs.Realisation.{entry_unit, linear_members, is_linear, exact_entry, ExactLaw, ExactMember, Stiffness, Realisation, IsEquilibrium, KeepsStretch, LawsKeepStretch, stretch, exact_reach, reach_in, force_in, resistance, exact_load, displaced, fraction}
 use Rattle.int_laws.specs.Matrices.{Vector, Entries, quadratic_form, squared_norm}
 use Rattle.bound_laws.specs.Definiteness.{SymmetricFractions, IsDefiniteWith}
 use Rattle.bound_laws.specs.Nearness.{IsStiffnessMatrix, displacement_error, force_error, left_over, StiffnessMatrixExists, EquilibriaAreNear}
@@ -119,55 +120,99 @@ reach-apart rows m u v =
     ∙ sum_below-same rows (λ row. (m.shape row *ℤ u row) -ℤ (m.shape row *ℤ v row)) (λ row. m.shape row *ℤ apart u v row)
     (λ row _. sym (mul-sub (m.shape row) (u row) (v row)))
 
-stretch-apart : (q : ℤ) (law : ExactLaw) (x y : ℤ) → stretch q law x -ℤ stretch q law y ≡ x -ℤ y
-stretch-apart q (linear d) x y = omega (arith, int_sums)
+-- how the stretch of a member changes from v to u
+abbrev stretch_change : Realisation → Vector → Vector → Vector
+stretch_change r u v k =
+    stretch r.stiffness.denominator (r.stiffness.member k).law (r.numbers.offset k) (reach_in r.stiffness u k)
+    -ℤ stretch r.stiffness.denominator (r.stiffness.member k).law (r.numbers.offset k) (reach_in r.stiffness v k)
 
--- a force changes by K times the reach of the difference
+-- how far a difference reaches along a member
+abbrev reach_change : Realisation → Vector → Vector
+reach_change r e k = dot r.stiffness.rows (r.stiffness.member k).shape e
+
+-- what the law keeps of it
+keeps : LawsKeepStretch → (r : Realisation) (u v : Vector) (k : ℕ) →
+    KeepsStretch (r.stiffness.member k).law (stretch_change r u v k) (reach_change r (apart u v) k)
+keeps laws_keep r u v k =
+    subst (λ (z : ℤ). KeepsStretch (r.stiffness.member k).law (stretch_change r u v k) z) (reach-apart r.stiffness.rows (r.stiffness.member k) u v)
+    (laws_keep r.stiffness.denominator (r.stiffness.member k).law (r.numbers.offset k) (reach_in r.stiffness u k) (reach_in r.stiffness v k))
+
+-- a force changes by K times the change of the stretch
 force-apart : (r : Realisation) (u v : Vector) (k : ℕ) →
-    force_in r u k -ℤ force_in r v k ≡ (r.member k).stiffness *ℤ dot r.rows (r.member k).shape (apart u v)
-force-apart r u v k =
-    let m = r.member k in
-    sym (mul-sub m.stiffness (stretch r.denominator m.law (exact_reach r.rows m u)) (stretch r.denominator m.law (exact_reach r.rows m v)))
-    ∙ ap (λ (z : ℤ). m.stiffness *ℤ z)
-    (stretch-apart r.denominator m.law (exact_reach r.rows m u) (exact_reach r.rows m v) ∙ reach-apart r.rows m u v)
+    force_in r u k -ℤ force_in r v k ≡ (r.stiffness.member k).stiffness *ℤ stretch_change r u v k
+force-apart r u v k = sym (mul-sub (r.stiffness.member k).stiffness _ _)
 
 -- what v leaves of a load that u holds: the pulls of the changes of force
 left-apart : (r : Realisation) (u v : Vector) (row : ℕ) → resistance r u row ≡ exact_load r row →
     exact_load r row -ℤ resistance r v row
-    ≡ sum_below r.members (λ k. (r.member k).shape row *ℤ ((r.member k).stiffness *ℤ dot r.rows (r.member k).shape (apart u v)))
+    ≡ sum_below r.stiffness.members (λ k. (r.stiffness.member k).shape row *ℤ ((r.stiffness.member k).stiffness *ℤ stretch_change r u v k))
 left-apart r u v row balanced =
     ap (λ (z : ℤ). z -ℤ resistance r v row) (sym balanced)
-    ∙ sym (sum_below-sub r.members (λ k. (r.member k).shape row *ℤ force_in r u k) (λ k. (r.member k).shape row *ℤ force_in r v k))
-    ∙ sum_below-same r.members (λ k. ((r.member k).shape row *ℤ force_in r u k) -ℤ ((r.member k).shape row *ℤ force_in r v k))
-    (λ k. (r.member k).shape row *ℤ ((r.member k).stiffness *ℤ dot r.rows (r.member k).shape (apart u v)))
-    (λ k _. sym (mul-sub ((r.member k).shape row) (force_in r u k) (force_in r v k)) ∙ ap (λ (z : ℤ). (r.member k).shape row *ℤ z) (force-apart r u v k))
+    ∙ sym (sum_below-sub r.stiffness.members (λ k. (r.stiffness.member k).shape row *ℤ force_in r u k) (λ k. (r.stiffness.member k).shape row *ℤ force_in r v k))
+    ∙ sum_below-same r.stiffness.members (λ k. ((r.stiffness.member k).shape row *ℤ force_in r u k) -ℤ ((r.stiffness.member k).shape row *ℤ force_in r v k))
+    (λ k. (r.stiffness.member k).shape row *ℤ ((r.stiffness.member k).stiffness *ℤ stretch_change r u v k))
+    (λ k _. sym (mul-sub ((r.stiffness.member k).shape row) (force_in r u k) (force_in r v k)) ∙ ap (λ (z : ℤ). (r.stiffness.member k).shape row *ℤ z) (force-apart r u v k))
 
 -- ---- the law
 
--- K s^2 of each member
-abbrev member_work : Realisation → Vector → ℕ → ℤ
-member_work r e k = (r.member k).stiffness *ℤ (dot r.rows (r.member k).shape e *ℤ dot r.rows (r.member k).shape e)
+-- the work K s d of a member, with s the change of its stretch and d that of its reach
+abbrev member_work : Realisation → List ℤ → Vector → ℕ → ℤ
+member_work r u exact k =
+    ((r.stiffness.member k).stiffness *ℤ stretch_change r exact (displaced r.stiffness.denominator u) k) *ℤ reach_change r (displacement_error r u exact) k
 
 -- the work of what is left is that of all members
 work-left : (r : Realisation) (u : List ℤ) (exact : Vector) → IsEquilibrium r exact →
-    dot r.rows (displacement_error r u exact) (left_over r u) ≡ sum_below r.members (member_work r (displacement_error r u exact))
+    dot r.stiffness.rows (displacement_error r u exact) (left_over r u) ≡ sum_below r.stiffness.members (member_work r u exact)
 work-left r u exact balanced =
     let e : Vector = displacement_error r u exact in
-    sum_below-same r.rows (λ i. e i *ℤ left_over r u i)
-    (λ i. e i *ℤ sum_below r.members (λ k. (r.member k).shape i *ℤ ((r.member k).stiffness *ℤ dot r.rows (r.member k).shape e)))
-    (λ i inside. ap (λ (z : ℤ). e i *ℤ z) (left-apart r exact (displaced r.denominator u) i (balanced i inside)))
-    ∙ work-members r.rows r.members (λ k. (r.member k).stiffness *ℤ dot r.rows (r.member k).shape e) (λ k. (r.member k).shape) e
-    ∙ sum_below-same r.members (λ k. ((r.member k).stiffness *ℤ dot r.rows (r.member k).shape e) *ℤ dot r.rows (r.member k).shape e) (member_work r e)
-    (λ k _. mul_assoc (r.member k).stiffness (dot r.rows (r.member k).shape e) (dot r.rows (r.member k).shape e))
+    let change : Vector = stretch_change r exact (displaced r.stiffness.denominator u) in
+    sum_below-same r.stiffness.rows (λ i. e i *ℤ left_over r u i)
+    (λ i. e i *ℤ sum_below r.stiffness.members (λ k. (r.stiffness.member k).shape i *ℤ ((r.stiffness.member k).stiffness *ℤ change k)))
+    (λ i inside. ap (λ (z : ℤ). e i *ℤ z) (left-apart r exact (displaced r.stiffness.denominator u) i (balanced i inside)))
+    ∙ work-members r.stiffness.rows r.stiffness.members (λ k. (r.stiffness.member k).stiffness *ℤ change k) (λ k. (r.stiffness.member k).shape) e
 
-form-work : (r : Realisation) (k : SymmetricFractions r.rows) (e : Vector) → IsStiffnessMatrix r k →
-    quadratic_form r.rows k.numerator e ≡ sum_below r.members (member_work r e)
-form-work r k e own =
-    form-same r.rows k.numerator (λ i j. sum_below r.members (λ t. (r.member t).stiffness *ℤ ((r.member t).shape i *ℤ (r.member t).shape j))) e
+-- the stiffness that takes part at all displacements: K where the law is linear
+abbrev lasting : Bool → ℤ → ℤ
+lasting takes_part k = if takes_part then k else pos 0
+
+lasting-entry : (takes_part : Bool) (k x y : ℤ) → (if takes_part then x *ℤ (k *ℤ y) else pos 0) ≡ lasting takes_part k *ℤ (x *ℤ y)
+lasting-entry true k x y = mul_swap x k y
+lasting-entry false k x y = sym (zero-mul (x *ℤ y))
+
+-- K s s is at most K s d
+own-work : (law : ExactLaw) (k s d : ℤ) → pos 0 ≤ℤ k → KeepsStretch law s d → (k *ℤ (s *ℤ s)) ≤ℤ ((k *ℤ s) *ℤ d)
+own-work law k s d positive keep =
+    let more = le_mul k positive keep.between in
+    omega (arith, int_sums, more, mul_comm k (s *ℤ s), mul_comm (s *ℤ d) k, mul_assoc k s d)
+
+-- where all of a change of reach counts, K d d is K s d; elsewhere K s d is not negative
+lasting-work : (law : ExactLaw) (takes_part : Bool) (k s d : ℤ) → is_linear law ≡ takes_part → pos 0 ≤ℤ k → KeepsStretch law s d →
+    (lasting takes_part k *ℤ (d *ℤ d)) ≤ℤ ((k *ℤ s) *ℤ d)
+lasting-work law true k s d kind positive keep =
+    let same = ap (λ (z : ℤ). (k *ℤ z) *ℤ d) (keep.whole kind) in
+    omega (arith, int_sums, same, mul_assoc k d d)
+lasting-work law false k s d kind positive keep =
+    let own = own-work law k s d positive keep in
+    let square = mul_nonnegative k (s *ℤ s) positive (square_nonnegative s) in
+    omega (arith, int_sums, own, square, zero-mul (d *ℤ d))
+
+-- the form of the stiffness matrix is at most the work
+form-work : LawsKeepStretch → (r : Realisation) (k : SymmetricFractions r.stiffness.rows) (u : List ℤ) (exact : Vector) → IsStiffnessMatrix r.stiffness k →
+    ((i : ℕ) → i < r.stiffness.members → pos 0 ≤ℤ (r.stiffness.member i).stiffness) →
+    quadratic_form r.stiffness.rows k.numerator (displacement_error r u exact) ≤ℤ sum_below r.stiffness.members (member_work r u exact)
+form-work laws_keep r k u exact own stiff =
+    let e : Vector = displacement_error r u exact in
+    let part : Vector = λ t. lasting (linear_members r.stiffness t) (r.stiffness.member t).stiffness in
+    let form = form-same r.stiffness.rows k.numerator (λ i j. sum_below r.stiffness.members (λ t. part t *ℤ ((r.stiffness.member t).shape i *ℤ (r.stiffness.member t).shape j))) e
     (λ i j i_in j_in.
     own.entry i j i_in j_in
-    ∙ sum_below-same r.members _ _ (λ t _. mul_swap ((r.member t).shape i) (r.member t).stiffness ((r.member t).shape j)))
-    ∙ form-members r.rows r.members (λ k. (r.member k).stiffness) (λ k. (r.member k).shape) e
+    ∙ sum_below-same r.stiffness.members _ _
+    (λ t _. lasting-entry (linear_members r.stiffness t) (r.stiffness.member t).stiffness ((r.stiffness.member t).shape i) ((r.stiffness.member t).shape j)))
+    ∙ form-members r.stiffness.rows r.stiffness.members part (λ t. (r.stiffness.member t).shape) e in
+    let below = sum_below-le r.stiffness.members (λ t. part t *ℤ (reach_change r e t *ℤ reach_change r e t)) (member_work r u exact)
+    (λ t inside. lasting-work (r.stiffness.member t).law (linear_members r.stiffness t) (r.stiffness.member t).stiffness _ _ refl (stiff t inside)
+    (keeps laws_keep r exact (displaced r.stiffness.denominator u) t)) in
+    omega (arith, int_sums, form, below)
 
 -- a stiffness within an interval whose lower end isn't negative isn't negative
 not_negative : (e : Ends) (n q : ℤ) → Within e (fraction n q) → pos 0 ≤ℤ e.lo → pos 0 ≤ℤ n
@@ -177,61 +222,74 @@ not_negative e n q within low =
     let more = mul_nonnegative e.lo q low (omega (arith, int_sums)) in
     omega (arith, int_sums, more, at_least)
 
-pub unit_positive : (r : Realisation) → pos 0 <ℤ r.denominator → pos 0 <ℤ entry_unit r.denominator
-unit_positive r q =
-    mul_positive (pos (2 ^ 112)) ((r.denominator *ℤ r.denominator) *ℤ r.denominator) (omega (arith, ints))
-    (mul_positive (r.denominator *ℤ r.denominator) r.denominator (mul_positive r.denominator r.denominator q q) q)
+pub unit_positive : (s : Stiffness) → pos 0 <ℤ s.denominator → pos 0 <ℤ entry_unit s.denominator
+unit_positive s q =
+    mul_positive (pos (2 ^ 112)) ((s.denominator *ℤ s.denominator) *ℤ s.denominator) (omega (arith, ints))
+    (mul_positive (s.denominator *ℤ s.denominator) s.denominator (mul_positive s.denominator s.denominator q q) q)
 
 -- l |e|^2 is at most the work, with l the bound in the realisation's units
-enough_work : (r : Realisation) (k : SymmetricFractions r.rows) (lambda : ℤ) (u : List ℤ) (exact : Vector) →
-    IsStiffnessMatrix r k → IsDefiniteWith r.rows lambda k → IsEquilibrium r exact →
-    ((lambda *ℤ entry_unit r.denominator) *ℤ squared_norm r.rows (displacement_error r u exact)) ≤ℤ dot r.rows (displacement_error r u exact) (left_over r u)
-enough_work r k lambda u exact own definite balanced =
+enough_work : LawsKeepStretch → (r : Realisation) (k : SymmetricFractions r.stiffness.rows) (lambda : ℤ) (u : List ℤ) (exact : Vector) →
+    IsStiffnessMatrix r.stiffness k → IsDefiniteWith r.stiffness.rows lambda k → IsEquilibrium r exact →
+    ((i : ℕ) → i < r.stiffness.members → pos 0 ≤ℤ (r.stiffness.member i).stiffness) →
+    ((lambda *ℤ entry_unit r.stiffness.denominator) *ℤ squared_norm r.stiffness.rows (displacement_error r u exact))
+    ≤ℤ dot r.stiffness.rows (displacement_error r u exact) (left_over r u)
+enough_work laws_keep r k lambda u exact own definite balanced stiff =
     let e : Vector = displacement_error r u exact in
-    let scaled = ap (λ (z : ℤ). z *ℤ (lambda *ℤ squared_norm r.rows e)) own.unit ∙ mul_swap (entry_unit r.denominator) lambda (squared_norm r.rows e) ∙ sym (mul_assoc lambda (entry_unit r.denominator) (squared_norm r.rows e)) in
-    let form = form-work r k e own in
+    let scaled = ap (λ (z : ℤ). z *ℤ (lambda *ℤ squared_norm r.stiffness.rows e)) own.unit
+    ∙ mul_swap (entry_unit r.stiffness.denominator) lambda (squared_norm r.stiffness.rows e)
+    ∙ sym (mul_assoc lambda (entry_unit r.stiffness.denominator) (squared_norm r.stiffness.rows e)) in
+    let form = form-work laws_keep r k u exact own stiff in
     let work = work-left r u exact balanced in
     let below = definite e in
     omega (arith, int_sums, scaled, form, work, below)
 
-pub stiffness_not_negative : (r : Realisation) (k : ℕ) (e : Ends) → Within e (fraction (r.member k).stiffness r.denominator) → pos 0 ≤ℤ e.lo → pos 0 ≤ℤ (r.member k).stiffness
-stiffness_not_negative r k e within low = not_negative e (r.member k).stiffness r.denominator within low
+pub stiffness_not_negative : (r : Realisation) (k : ℕ) (e : Ends) → Within e (fraction (r.stiffness.member k).stiffness r.stiffness.denominator) → pos 0 ≤ℤ e.lo → pos 0 ≤ℤ (r.stiffness.member k).stiffness
+stiffness_not_negative r k e within low = not_negative e (r.stiffness.member k).stiffness r.stiffness.denominator within low
 
-near_by_work : (r : Realisation) (l : ℤ) (u : List ℤ) (exact : Vector) → pos 0 ≤ℤ l →
-    ((k : ℕ) → k < r.members → pos 0 ≤ℤ (r.member k).stiffness) →
+near_by_work : LawsKeepStretch → (r : Realisation) (l : ℤ) (u : List ℤ) (exact : Vector) → pos 0 ≤ℤ l →
+    ((k : ℕ) → k < r.stiffness.members → pos 0 ≤ℤ (r.stiffness.member k).stiffness) →
     IsEquilibrium r exact →
-    (l *ℤ squared_norm r.rows (displacement_error r u exact)) ≤ℤ dot r.rows (displacement_error r u exact) (left_over r u) →
-    (k : ℕ) → k < r.members →
-    (l *ℤ (force_error r u exact k *ℤ force_error r u exact k)) ≤ℤ ((r.member k).stiffness *ℤ squared_norm r.rows (left_over r u))
-near_by_work r l u exact positive stiff balanced enough k inside =
+    (l *ℤ squared_norm r.stiffness.rows (displacement_error r u exact)) ≤ℤ dot r.stiffness.rows (displacement_error r u exact) (left_over r u) →
+    (k : ℕ) → k < r.stiffness.members →
+    (l *ℤ (force_error r u exact k *ℤ force_error r u exact k)) ≤ℤ ((r.stiffness.member k).stiffness *ℤ squared_norm r.stiffness.rows (left_over r u))
+near_by_work laws_keep r l u exact positive stiff balanced enough k inside =
     let e : Vector = displacement_error r u exact in
-    let part = sum_below-ge_term r.members k (member_work r e) inside
-    (λ i below. mul_nonnegative (r.member i).stiffness (dot r.rows (r.member i).shape e *ℤ dot r.rows (r.member i).shape e) (stiff i below) (square_nonnegative (dot r.rows (r.member i).shape e))) in
+    let change : Vector = stretch_change r exact (displaced r.stiffness.denominator u) in
+    let own = λ (i : ℕ) (below : i < r.stiffness.members).
+    own-work (r.stiffness.member i).law (r.stiffness.member i).stiffness (change i) (reach_change r e i) (stiff i below)
+    (keeps laws_keep r exact (displaced r.stiffness.denominator u) i) in
+    let part = sum_below-ge_term r.stiffness.members k (member_work r u exact) inside
+    (λ i below.
+    let square = mul_nonnegative (r.stiffness.member i).stiffness (change i *ℤ change i) (stiff i below) (square_nonnegative (change i)) in
+    omega (arith, int_sums, own i below, square)) in
     let all = work-left r u exact balanced in
-    let bound = force-bounded l (r.member k).stiffness (dot r.rows (r.member k).shape e) (dot r.rows e (left_over r u)) (squared_norm r.rows (left_over r u))
-    positive (stiff k inside) (omega (arith, int_sums, part, all)) (work-bounded r.rows l e (left_over r u) positive enough) in
-    let change = ap (λ (z : ℤ). l *ℤ (z *ℤ z)) (force-apart r exact (displaced r.denominator u) k) in
-    omega (arith, int_sums, bound, change)
+    let bound = force-bounded l (r.stiffness.member k).stiffness (change k) (dot r.stiffness.rows e (left_over r u)) (squared_norm r.stiffness.rows (left_over r u))
+    positive (stiff k inside) (omega (arith, int_sums, own k inside, part, all)) (work-bounded r.stiffness.rows l e (left_over r u) positive enough) in
+    let scaled = ap (λ (z : ℤ). l *ℤ (z *ℤ z)) (force-apart r exact (displaced r.stiffness.denominator u) k) in
+    omega (arith, int_sums, bound, scaled)
 
-pub equilibria_near : EquilibriaAreNear
-equilibria_near s r k lambda u exact stiff real own definite one balanced =
-    let positive : pos 0 <ℤ (lambda *ℤ entry_unit r.denominator) = mul_positive lambda (entry_unit r.denominator) (omega (arith, int_sums)) (unit_positive r real.positive) in
-    let enough = enough_work r k lambda u exact own definite balanced in
+pub equilibria_near : LawsKeepStretch → EquilibriaAreNear
+equilibria_near laws_keep s r k lambda u exact stiff real own definite one balanced =
+    let positive : pos 0 <ℤ (lambda *ℤ entry_unit r.stiffness.denominator) =
+    mul_positive lambda (entry_unit r.stiffness.denominator) (omega (arith, int_sums)) (unit_positive r.stiffness real.stiffness.positive) in
+    let not_below : (i : ℕ) → i < r.stiffness.members → pos 0 ≤ℤ (r.stiffness.member i).stiffness =
+    λ i inside. stiffness_not_negative r i (member_of s.structure i).kappa (real.stiffness.member_within i inside).stiffness_within
+    (stiff i (subst (λ (n : ℕ). i < n) real.stiffness.all_members inside)) in
+    let enough = enough_work laws_keep r k lambda u exact own definite balanced not_below in
     record {
-      displacements = error-bounded r.rows (lambda *ℤ entry_unit r.denominator) (displacement_error r u exact) (left_over r u) (omega (arith, int_sums, positive)) enough;
-      forces = near_by_work r (lambda *ℤ entry_unit r.denominator) u exact (omega (arith, int_sums, positive))
-          (λ i inside. stiffness_not_negative r i (member_of s.structure i).kappa (real.member_within i inside).stiffness_within (stiff i (subst (λ (n : ℕ). i < n) real.all_members inside)))
-          balanced enough;
+      displacements = error-bounded r.stiffness.rows (lambda *ℤ entry_unit r.stiffness.denominator) (displacement_error r u exact) (left_over r u) (omega (arith, int_sums, positive)) enough;
+      forces = near_by_work laws_keep r (lambda *ℤ entry_unit r.stiffness.denominator) u exact (omega (arith, int_sums, positive)) not_below balanced enough;
     }
 
 pub matrix_exists : StiffnessMatrixExists
-matrix_exists s r real = (
+matrix_exists b laws s real = (
   record {
-    numerator = exact_entry every_member r;
-    denominator = entry_unit r.denominator;
-    positive = unit_positive r real.positive;
+    numerator = exact_entry (linear_members s) s;
+    denominator = entry_unit s.denominator;
+    positive = unit_positive s real.positive;
     symmetric = λ i j _ _.
-        sum_below-same r.members _ _ (λ k _. mul_turn ((r.member k).shape i) (r.member k).stiffness ((r.member k).shape j));
+        sum_below-same s.members _ _
+        (λ k _. ap (λ (z : ℤ). if is_linear (s.member k).law then z else pos 0) (mul_turn ((s.member k).shape i) (s.member k).stiffness ((s.member k).shape j)));
   },
   record { entry = λ i j _ _. refl; unit = refl },
 )

@@ -101,19 +101,19 @@ within_widened e radius q f g within above below =
     }
 
 -- each displacement's own part of the law
-row_near : (r : Realisation) (lambda : ℤ) (u : List ℤ) (exact : Vector) (row : ℕ) → row < r.rows → IsNear r lambda u exact →
-    (((lambda *ℤ entry_unit r.denominator) *ℤ (lambda *ℤ entry_unit r.denominator)) *ℤ (displacement_error r u exact row *ℤ displacement_error r u exact row))
-    ≤ℤ squared_norm r.rows (left_over r u)
+row_near : (r : Realisation) (lambda : ℤ) (u : List ℤ) (exact : Vector) (row : ℕ) → row < r.stiffness.rows → IsNear r lambda u exact →
+    (((lambda *ℤ entry_unit r.stiffness.denominator) *ℤ (lambda *ℤ entry_unit r.stiffness.denominator)) *ℤ (displacement_error r u exact row *ℤ displacement_error r u exact row))
+    ≤ℤ squared_norm r.stiffness.rows (left_over r u)
 row_near r lambda u exact row inside near =
-    let part = sum_below-ge_term r.rows row (λ i. displacement_error r u exact i *ℤ displacement_error r u exact i) inside (λ i _. square_nonnegative (displacement_error r u exact i)) in
-    let more = le_mul ((lambda *ℤ entry_unit r.denominator) *ℤ (lambda *ℤ entry_unit r.denominator)) (square_nonnegative (lambda *ℤ entry_unit r.denominator)) part in
+    let part = sum_below-ge_term r.stiffness.rows row (λ i. displacement_error r u exact i *ℤ displacement_error r u exact i) inside (λ i _. square_nonnegative (displacement_error r u exact i)) in
+    let more = le_mul ((lambda *ℤ entry_unit r.stiffness.denominator) *ℤ (lambda *ℤ entry_unit r.stiffness.denominator)) (square_nonnegative (lambda *ℤ entry_unit r.stiffness.denominator)) part in
     omega (
       arith,
       int_sums,
       more,
       near.displacements,
-      mul_comm (displacement_error r u exact row *ℤ displacement_error r u exact row) ((lambda *ℤ entry_unit r.denominator) *ℤ (lambda *ℤ entry_unit r.denominator)),
-      mul_comm (squared_norm r.rows (displacement_error r u exact)) ((lambda *ℤ entry_unit r.denominator) *ℤ (lambda *ℤ entry_unit r.denominator)),
+      mul_comm (displacement_error r u exact row *ℤ displacement_error r u exact row) ((lambda *ℤ entry_unit r.stiffness.denominator) *ℤ (lambda *ℤ entry_unit r.stiffness.denominator)),
+      mul_comm (squared_norm r.stiffness.rows (displacement_error r u exact)) ((lambda *ℤ entry_unit r.stiffness.denominator) *ℤ (lambda *ℤ entry_unit r.stiffness.denominator)),
     )
 
 power_148 : pos (2 ^ 148) ≡ pos (2 ^ 112) *ℤ pos (2 ^ 36)
@@ -124,32 +124,32 @@ power_296 = refl
 
 pub near_enclosed : NearIsEnclosed
 near_enclosed s r lambda u exact forces size radius force_radius stiff real one near size_up long radii within =
-    let q_up : pos 0 <ℤ r.denominator = real.positive in
-    let unit_up = unit_positive r q_up in
+    let q_up : pos 0 <ℤ r.stiffness.denominator = real.stiffness.positive in
+    let unit_up = unit_positive r.stiffness q_up in
     let lambda_up : pos 0 <ℤ lambda = omega (arith, int_sums) in
-    let unit = residual_units (pos (2 ^ 148)) (pos (2 ^ 112)) (pos (2 ^ 36)) ((r.denominator *ℤ r.denominator) *ℤ r.denominator) r.denominator power_148 in
-    let long_here = subst (λ (z : ℤ). squared_norm r.rows (left_over r u) ≤ℤ ((z *ℤ size) *ℤ (z *ℤ size))) unit long in
-    let row_bound = λ (e : ℤ) (h : (((lambda *ℤ entry_unit r.denominator) *ℤ (lambda *ℤ entry_unit r.denominator)) *ℤ (e *ℤ e)) ≤ℤ squared_norm r.rows (left_over r u)).
-    displacement_radius (entry_unit r.denominator) (pos (2 ^ 36)) r.denominator lambda size radius e (squared_norm r.rows (left_over r u)) unit_up (omega (arith, ints)) q_up lambda_up size_up h long_here radii.displacement in
-    let units = force_units (pos (2 ^ 148)) (pos (2 ^ 112)) (pos (2 ^ 92)) ((r.denominator *ℤ r.denominator) *ℤ r.denominator) r.denominator power_296 refl in
-    let force_unit_up : pos 0 ≤ℤ (pos (2 ^ 92) *ℤ ((r.denominator *ℤ r.denominator) *ℤ r.denominator)) =
-    mul_nonnegative (pos (2 ^ 92)) ((r.denominator *ℤ r.denominator) *ℤ r.denominator) (omega (arith, ints))
-    (mul_nonnegative (r.denominator *ℤ r.denominator) r.denominator (square_nonnegative r.denominator) (omega (arith, int_sums, q_up))) in
+    let unit = residual_units (pos (2 ^ 148)) (pos (2 ^ 112)) (pos (2 ^ 36)) ((r.stiffness.denominator *ℤ r.stiffness.denominator) *ℤ r.stiffness.denominator) r.stiffness.denominator power_148 in
+    let long_here = subst (λ (z : ℤ). squared_norm r.stiffness.rows (left_over r u) ≤ℤ ((z *ℤ size) *ℤ (z *ℤ size))) unit long in
+    let row_bound = λ (e : ℤ) (h : (((lambda *ℤ entry_unit r.stiffness.denominator) *ℤ (lambda *ℤ entry_unit r.stiffness.denominator)) *ℤ (e *ℤ e)) ≤ℤ squared_norm r.stiffness.rows (left_over r u)).
+    displacement_radius (entry_unit r.stiffness.denominator) (pos (2 ^ 36)) r.stiffness.denominator lambda size radius e (squared_norm r.stiffness.rows (left_over r u)) unit_up (omega (arith, ints)) q_up lambda_up size_up h long_here radii.displacement in
+    let units = force_units (pos (2 ^ 148)) (pos (2 ^ 112)) (pos (2 ^ 92)) ((r.stiffness.denominator *ℤ r.stiffness.denominator) *ℤ r.stiffness.denominator) r.stiffness.denominator power_296 refl in
+    let force_unit_up : pos 0 ≤ℤ (pos (2 ^ 92) *ℤ ((r.stiffness.denominator *ℤ r.stiffness.denominator) *ℤ r.stiffness.denominator)) =
+    mul_nonnegative (pos (2 ^ 92)) ((r.stiffness.denominator *ℤ r.stiffness.denominator) *ℤ r.stiffness.denominator) (omega (arith, ints))
+    (mul_nonnegative (r.stiffness.denominator *ℤ r.stiffness.denominator) r.stiffness.denominator (square_nonnegative r.stiffness.denominator) (omega (arith, int_sums, q_up))) in
     record {
       displacement = λ row inside.
           let own = row_near r lambda u exact row inside near in
-          let other = subst (λ (z : ℤ). (((lambda *ℤ entry_unit r.denominator) *ℤ (lambda *ℤ entry_unit r.denominator)) *ℤ z) ≤ℤ squared_norm r.rows (left_over r u)) (sym (square-neg (displacement_error r u exact row))) own in
-          within_alone (slice_index_or u row (pos 0)) radius r.denominator (exact row) q_up
+          let other = subst (λ (z : ℤ). (((lambda *ℤ entry_unit r.stiffness.denominator) *ℤ (lambda *ℤ entry_unit r.stiffness.denominator)) *ℤ z) ≤ℤ squared_norm r.stiffness.rows (left_over r u)) (sym (square-neg (displacement_error r u exact row))) own in
+          within_alone (slice_index_or u row (pos 0)) radius r.stiffness.denominator (exact row) q_up
           (row_bound (displacement_error r u exact row) own) (row_bound (neg_ℤ (displacement_error r u exact row)) other);
       force = λ k inside.
-          let inside_b = subst (λ (n : ℕ). k < n) real.all_members inside in
-          let kappa_within = (real.member_within k inside).stiffness_within in
-          let bound = λ (f : ℤ) (h : ((lambda *ℤ entry_unit r.denominator) *ℤ (f *ℤ f)) ≤ℤ ((r.member k).stiffness *ℤ squared_norm r.rows (left_over r u))).
-          force_radius_bound (entry_unit r.denominator) (residual_unit r) (pos (2 ^ 92) *ℤ ((r.denominator *ℤ r.denominator) *ℤ r.denominator)) r.denominator lambda size (force_radius k) (r.member k).stiffness (member_of s.structure k).kappa.hi f (squared_norm r.rows (left_over r u))
-          unit_up lambda_up (mul_nonnegative (force_radius k) (pos (2 ^ 92) *ℤ ((r.denominator *ℤ r.denominator) *ℤ r.denominator)) (radii.not_negative k inside_b) force_unit_up)
+          let inside_b = subst (λ (n : ℕ). k < n) real.stiffness.all_members inside in
+          let kappa_within = (real.stiffness.member_within k inside).stiffness_within in
+          let bound = λ (f : ℤ) (h : ((lambda *ℤ entry_unit r.stiffness.denominator) *ℤ (f *ℤ f)) ≤ℤ ((r.stiffness.member k).stiffness *ℤ squared_norm r.stiffness.rows (left_over r u))).
+          force_radius_bound (entry_unit r.stiffness.denominator) (residual_unit r) (pos (2 ^ 92) *ℤ ((r.stiffness.denominator *ℤ r.stiffness.denominator) *ℤ r.stiffness.denominator)) r.stiffness.denominator lambda size (force_radius k) (r.stiffness.member k).stiffness (member_of s.structure k).kappa.hi f (squared_norm r.stiffness.rows (left_over r u))
+          unit_up lambda_up (mul_nonnegative (force_radius k) (pos (2 ^ 92) *ℤ ((r.stiffness.denominator *ℤ r.stiffness.denominator) *ℤ r.stiffness.denominator)) (radii.not_negative k inside_b) force_unit_up)
           (stiffness_not_negative r k (member_of s.structure k).kappa kappa_within (stiff k inside_b)) units h long kappa_within.at_most (radii.force k inside_b) in
           let own = near.forces k inside in
-          let other = subst (λ (z : ℤ). ((lambda *ℤ entry_unit r.denominator) *ℤ z) ≤ℤ ((r.member k).stiffness *ℤ squared_norm r.rows (left_over r u))) (sym (square-neg (force_error r u exact k))) own in
-          within_widened (force_of forces k) (force_radius k) (pos (2 ^ 92) *ℤ ((r.denominator *ℤ r.denominator) *ℤ r.denominator)) (force_in r exact k) (force_in r (displaced r.denominator u) k)
+          let other = subst (λ (z : ℤ). ((lambda *ℤ entry_unit r.stiffness.denominator) *ℤ z) ≤ℤ ((r.stiffness.member k).stiffness *ℤ squared_norm r.stiffness.rows (left_over r u))) (sym (square-neg (force_error r u exact k))) own in
+          within_widened (force_of forces k) (force_radius k) (pos (2 ^ 92) *ℤ ((r.stiffness.denominator *ℤ r.stiffness.denominator) *ℤ r.stiffness.denominator)) (force_in r exact k) (force_in r (displaced r.stiffness.denominator u) k)
           (within k inside) (bound (force_error r u exact k) own) (bound (neg_ℤ (force_error r u exact k)) other);
     }

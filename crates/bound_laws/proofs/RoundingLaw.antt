@@ -42,10 +42,10 @@ square_within e n d within =
 
 pub sizes_give_length : SizesGiveLength
 sizes_give_length r u residual size within enough =
-    let rows = sum_below-le r.rows (λ row. left_over r u row *ℤ left_over r u row)
+    let rows = sum_below-le r.stiffness.rows (λ row. left_over r u row *ℤ left_over r u row)
     (λ row. (residual_unit r *ℤ residual_unit r) *ℤ (greater_size (residual row) *ℤ greater_size (residual row)))
     (λ row inside. square_within (residual row) (left_over r u row) (residual_unit r) (within row inside)) in
-    let common = sum_below-mul r.rows (residual_unit r *ℤ residual_unit r) (λ row. greater_size (residual row) *ℤ greater_size (residual row)) in
+    let common = sum_below-mul r.stiffness.rows (residual_unit r *ℤ residual_unit r) (λ row. greater_size (residual row) *ℤ greater_size (residual row)) in
     let scaled = le_mul (residual_unit r *ℤ residual_unit r) (square_nonnegative (residual_unit r)) enough in
     omega (
       arith,
@@ -53,7 +53,7 @@ sizes_give_length r u residual size within enough =
       rows,
       common,
       scaled,
-      mul_comm (squared_norm r.rows (λ row. greater_size (residual row))) (residual_unit r *ℤ residual_unit r),
+      mul_comm (squared_norm r.stiffness.rows (λ row. greater_size (residual row))) (residual_unit r *ℤ residual_unit r),
       mul_comm (size *ℤ size) (residual_unit r *ℤ residual_unit r),
       mul_mul_mul_comm (residual_unit r) size (residual_unit r) size,
     )

@@ -10,9 +10,10 @@ pub fn passed_test_is_proof()
     ensures { PassedTestIsProof }
 {}
 
-/// The law of certified bounds, for linear laws: every realisation has a stiffness matrix; where that is definite with
-/// lambda, in units of 2^-20 N/m, every equilibrium is near to any displacements; what is near is within the radii, in units
-/// of 2^-56 m or rad and of 2^-40 N or N m; and a length and radii that are rounded up are enough, and not negative.
+/// The law of certified bounds: every stiffness has a matrix; where that is definite with lambda, in units of 2^-20 N/m,
+/// every equilibrium is near to any displacements; what is near is within the radii, in units of 2^-56 m or rad and of
+/// 2^-40 N or N m; and a length and radii that are rounded up are enough, and not negative. Of a member's law it rests on one
+/// property alone, which every law keeps: how much of a change of reach counts.
 pub fn equilibria_are_near()
     ensures matrix { StiffnessMatrixExists }
     ensures near { EquilibriaAreNear }
@@ -20,4 +21,6 @@ pub fn equilibria_are_near()
     ensures length { SizesGiveLength }
     ensures radii { RoundedRadiiAreEnough }
     ensures not_negative { RadiiAreNotNegative }
-{}
+{
+    member_set::laws_keep_stretch();
+}

@@ -8,9 +8,14 @@ use Rattle.lists.specs.Results.{and_then}
 use Rattle.flex_interval.specs.declared.fault.IvFault.TheVariants.{Wide}
 use Rattle.member_set.specs.declared.members.Built.{Built}
 use Rattle.member_set.specs.Members.{built_nodes as nodes_of, row_count}
+use Rattle.member_set.specs.Realisation.{ExactLaw, linear, is_linear}
 use Rattle.member_set.specs.Interval.{Outcome}
 use Rattle.sym_blocks.specs.Matrix.{Matrix, node_count, entry, IsSymmetricByBlocks}
 use Rattle.assembly.specs.Stiffness.{AreAssembled, limited_entry, entry_sum}
+
+-- every law of a realisation is linear, so far
+pub all_linear : (law : ExactLaw) → is_linear law ≡ true
+all_linear linear = refl
 
 -- the sizes of an enclosure's middle and radius
 abbrev sizes : Ends → ℕ

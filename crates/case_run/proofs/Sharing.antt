@@ -47,11 +47,19 @@ same_realisations m case b other loads others r structure structure_too loaded l
     let one = structure.members in
     let two = structure_too.members in
     let same : other.members ≡ b.members = cc in
+    let stiffness = real.stiffness in
+    let numbers = real.numbers in
+    let count = ap (λ (xs : List Member). length xs) same in
     record {
-      positive = real.positive;
-      all_rows = omega (arith, real.all_rows, structure.nodes, structure_too.nodes);
-      all_members = real.all_members ∙ ap (λ (xs : List Member). length xs) same;
-      member_within = λ k inside. rw same at (real.member_within k inside);
-      load_within = λ row inside.
-          rw (sym (same_load m case loads others row loaded loaded_too (omega (arith, real.all_rows, structure_too.nodes)))) (real.load_within row inside);
+      stiffness = record {
+        positive = stiffness.positive;
+        all_rows = omega (arith, stiffness.all_rows, structure.nodes, structure_too.nodes);
+        all_members = stiffness.all_members ∙ count;
+        member_within = λ k inside. rw same at (stiffness.member_within k inside);
+      };
+      numbers = record {
+        offset_within = λ k inside. rw same at (numbers.offset_within k inside);
+        load_within = λ row inside.
+            rw (sym (same_load m case loads others row loaded loaded_too (omega (arith, stiffness.all_rows, structure_too.nodes)))) (numbers.load_within row inside);
+      };
     }

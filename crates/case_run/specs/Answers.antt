@@ -11,7 +11,7 @@ use Rattle.model_types.specs.declared.answers.Cause.{Cause}
 use Rattle.model_types.specs.declared.answers.Cause.TheVariants as causes
 use Rattle.model_types.specs.declared.answers.CaseAnswer.{CaseAnswer}
 use Rattle.model_types.specs.declared.answers.CaseAnswer.TheVariants.{Certified, Uncertified}
-use Rattle.cholesky_laws.specs.Recurrence.{scaled}
+use Rattle.cholesky_laws.specs.Recurrence.{scaled_stiffness}
 use Rattle.cholesky_laws.specs.Factor.{factor_of, Breakdown, low, too_wide}
 use Rattle.structure.specs.Structure.{structure_of}
 use Rattle.load_vectors.specs.Loads.{loads_of}
@@ -60,7 +60,7 @@ bounds_reason = because causes.WidthResidual
 
 -- the factor of the middles at a shift
 abbrev pub factor_at : Plan → Entries → ℤ → Result Entries Reason
-factor_at p middles shift = named breakdown_reason (factor_of (scaled middles p.order shift) p.order p.parents)
+factor_at p middles shift = named breakdown_reason (factor_of (scaled_stiffness middles p.order shift) p.order p.parents)
 
 -- the margin of the test by the factor at a shift
 abbrev pub margin_at : Plan → Entries → Entries → ℤ → Result ℤ Reason

@@ -24,8 +24,8 @@ ends_at bounds place = ends_of (slice_index_or bounds place (bounds_of nothing))
 
 -- each displacement, and the force of each member from `first` on, is within its bounds
 pub record AreWithin (r : Realisation) (exact : Vector) (first : ℕ) (u loads : List Bounds) : Type 0 where
-  pub displacement : (row : ℕ) → row < r.rows → Within (ends_at u row) (fraction (exact row) r.denominator)
-  pub load : (k : ℕ) → first + k < r.members → Within (ends_at loads k) (force_fraction r.denominator (force_in r exact (first + k)))
+  pub displacement : (row : ℕ) → row < r.stiffness.rows → Within (ends_at u row) (fraction (exact row) r.stiffness.denominator)
+  pub load : (k : ℕ) → first + k < r.stiffness.members → Within (ends_at loads k) (force_fraction r.stiffness.denominator (force_in r exact (first + k)))
 
 -- a fact of every equilibrium of every realisation of the model's structure under the loads of the case
 abbrev pub OfEquilibria : Lists → ℕ → (Realisation → Vector → Type 0) → Type 0

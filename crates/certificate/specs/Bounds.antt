@@ -8,18 +8,18 @@ use Rattle.flex_interval.specs.declared.fault.Wide.{Wide}
 use Rattle.flex_interval.specs.Ends.{Ends}
 use Rattle.flex_interval.specs.Fraction.{Within}
 use Rattle.member_set.specs.Members.{nothing, member_of, force_of, row_count, IsModerate, System}
-use Rattle.member_set.specs.Realisation.{Realisation, force_in, fraction, force_fraction}
+use Rattle.member_set.specs.Realisation.{Realisation, force_in, fraction, force_fraction, Stiffness}
 use Rattle.member_set.specs.Interval.{found, forces_of, residual_of}
 use Rattle.certificate.specs.declared.bounds.Enclosure.{Enclosure}
 use Rattle.int_laws.specs.Matrices.{Vector, squared_norm}
 use Rattle.bound_laws.specs.Definiteness.{SymmetricFractions, IsDefiniteWith}
 use Rattle.bound_laws.specs.Nearness.{IsStiffnessMatrix, widened, alone, greater_size, displacement_radius_of, force_radius_of}
 
--- ---- what is asked of a realisation
+-- ---- what is asked of a stiffness
 
--- the realisation's stiffness matrix is definite with lambda, in units of 2^-20 N/m
-abbrev pub IsDefiniteRealisation : Realisation → ℤ → Type 0
-IsDefiniteRealisation r lambda = (k : SymmetricFractions r.rows) → IsStiffnessMatrix r k → IsDefiniteWith r.rows lambda k
+-- its matrix is definite with lambda, in units of 2^-20 N/m
+abbrev pub IsDefiniteStiffness : Stiffness → ℤ → Type 0
+IsDefiniteStiffness s lambda = (k : SymmetricFractions s.rows) → IsStiffnessMatrix s k → IsDefiniteWith s.rows lambda k
 
 -- ---- what displacements u leave of the loads, in units of 2^-40 N or N m
 
@@ -104,8 +104,8 @@ pub data HasNoBounds (s : System) (u : List ℤ) (lambda : ℤ) : Type 0 where
 
 -- each displacement and each force of the equilibrium is in its interval
 pub record EnclosesEquilibrium (e : Enclosure) (r : Realisation) (exact : Vector) : Type 0 where
-  pub displacement : (row : ℕ) → row < r.rows → Within (slice_index_or e.u row nothing) (fraction (exact row) r.denominator)
-  pub force : (k : ℕ) → k < r.members → Within (force_of e.force k) (force_fraction r.denominator (force_in r exact k))
+  pub displacement : (row : ℕ) → row < r.stiffness.rows → Within (slice_index_or e.u row nothing) (fraction (exact row) r.stiffness.denominator)
+  pub force : (k : ℕ) → k < r.stiffness.members → Within (force_of e.force k) (force_fraction r.stiffness.denominator (force_in r exact k))
 
 -- both ends of an interval are below 2^67 in size
 abbrev pub HasLimitedEnds : Ends → Type 0

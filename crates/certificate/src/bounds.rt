@@ -2,10 +2,10 @@ ghost use Rattle.std.specs.Prelude.{◌≡◌, ℕ, ◌^◌, ◌<◌, ◌≤◌,
 ghost use Rattle.flex_interval.specs.Ends.{Ends};
 ghost use Rattle.member_set.specs.Members.{IsSystem, IsModerate, row_count, member_of, force_of, nothing, system, AreStiff};
 ghost use Rattle.member_set.specs.Realisation.{Realisation, IsRealisation, IsEquilibrium};
-ghost use Rattle.member_set.specs.Interval.{AreForces, residual_of};
+ghost use Rattle.member_set.specs.Interval.{HaveForces, forces_of, residual_of};
 ghost use Rattle.int_laws.specs.Matrices.{Vector};
 ghost use Rattle.bound_laws.specs.Nearness.{IsResidualLength, AreForcesWithin, widened, alone, force_radius_of};
-ghost use Rattle.certificate.specs.Bounds.{IsDefiniteRealisation, HasResiduals, sum_of_squares, AreBounds, HasNoBounds, EnclosesEquilibrium, residual_length};
+ghost use Rattle.certificate.specs.Bounds.{IsDefiniteStiffness, HasResiduals, sum_of_squares, AreBounds, HasNoBounds, EnclosesEquilibrium, residual_length};
 ghost use Rattle.certificate.specs.Widening.{AreLimited, AreWidened, AreAroundDisplacements, IsTooUnsteady, only};
 
 use crate::fault::EncloseFault;
@@ -47,7 +47,7 @@ pub fn enclose(
     requires positive { pos 1 ≤ℤ lambda }
     ensures bounds { IfOk result (λ e. AreBounds (system b.now laws.now loads.now) u.now lambda e) }
     ensures encloses { IfOk result (λ e. (r : Realisation) (exact : Vector) → IsRealisation (system b.now laws.now loads.now) r →
-        IsDefiniteRealisation r lambda → IsEquilibrium r exact → EnclosesEquilibrium e r exact) }
+        IsDefiniteStiffness r.stiffness lambda → IsEquilibrium r exact → EnclosesEquilibrium e r exact) }
     ensures wide { result ≡ Err EncloseFault.Wide → HasNoBounds (system b.now laws.now loads.now) u.now lambda }
 {
     let mut displacements = vec![in alloc; point(0); u.len()]?;
@@ -79,7 +79,7 @@ fn put_bounds(
     requires one_force_each { length forces.old ≡ length b.now.members }
     ensures bounds { OnOk result (AreBounds (system b.now laws.now loads.now) u.now lambda (only displacements.new forces.new)) }
     ensures encloses { OnOk result ((r : Realisation) (exact : Vector) → IsRealisation (system b.now laws.now loads.now) r →
-        IsDefiniteRealisation r lambda → IsEquilibrium r exact → EnclosesEquilibrium (only displacements.new forces.new) r exact) }
+        IsDefiniteStiffness r.stiffness lambda → IsEquilibrium r exact → EnclosesEquilibrium (only displacements.new forces.new) r exact) }
     ensures wide { OnErr result (HasNoBounds (system b.now laws.now loads.now) u.now lambda) }
 {
     equilibria_are_near();
@@ -100,7 +100,7 @@ fn residual_length(
     requires one_displacement_each { length u.now ≡ row_count b.now }
     requires moderate { IsModerate u.now }
     requires one_force_each { length forces.old ≡ length b.now.members }
-    ensures forces { OnOk result (AreForces b.now laws.now u.now forces.new) }
+    ensures forces { OnOk result (HaveForces b.now (forces_of b.now laws.now u.now) forces.new) }
     ensures forces_within { OnOk result ((r : Realisation) → IsRealisation (system b.now laws.now loads.now) r → AreForcesWithin r u.now forces.new) }
     ensures residuals { OnOk result (HasResiduals (system b.now laws.now loads.now) u.now) }
     ensures short { OnOk result (sum_of_squares (system b.now laws.now loads.now) u.now <ℤ pos (2 ^ 126)) }

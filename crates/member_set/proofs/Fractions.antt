@@ -7,7 +7,7 @@ use Rattle.flex_interval.specs.Fraction.{Fraction, Within, plus, minus, negated,
 use Rattle.member_set.specs.declared.members.Law.{Law}
 use Rattle.member_set.specs.declared.members.Law.TheVariants.{Linear}
 use Rattle.member_set.specs.Members.{start_of}
-use Rattle.member_set.specs.Realisation.{fraction, reach_fraction, force_fraction, pull_fraction, ExactLaw, linear, IsLawWithin, stretch}
+use Rattle.member_set.specs.Realisation.{fraction, reach_fraction, force_fraction, pull_fraction, ExactLaw, linear, IsLawWithin, IsOffsetWithin, stretch}
 
 -- products in one order, for `simp`
 left_comm : (a b c : ℤ) → a *ℤ (b *ℤ c) ≡ b *ℤ (a *ℤ c)
@@ -50,22 +50,27 @@ reach_sum_within e a b q x y positive first second sum =
     sum_within e x y (pos (2 ^ 56) *ℤ (q *ℤ q)) (square_unit q positive) (sum _ _ first second)
 
 -- a shape number times a displacement, over 2^56 q^2
-pub product_within : (e : Ends) (shape u q : ℤ) → pos 0 <ℤ q → Within e (times (fraction shape q) (whole u) 56) → Within e (reach_fraction q (shape *ℤ (q *ℤ u)))
-unfolding times whole
+pub product_within : (e : Ends) (shape u q : ℤ) → pos 0 <ℤ q → Within e (times (fraction shape q) (fraction u q) 56) → Within e (reach_fraction q (shape *ℤ u))
+unfolding times
 product_within e shape u q positive w =
-    within-moved e _ _ (shape *ℤ (q *ℤ u)) (pos (2 ^ 56) *ℤ (q *ℤ q)) (square_unit q positive) (unit_product shape u q (pos (2 ^ 56))) w
+    within-moved e _ _ (shape *ℤ u) (pos (2 ^ 56) *ℤ (q *ℤ q)) (square_unit q positive) (unit_product (shape *ℤ u) q (pos (2 ^ 56))) w
   where
-    unit_product : (shape u q unit : ℤ) → (shape *ℤ u) *ℤ (unit *ℤ (q *ℤ q)) ≡ (shape *ℤ (q *ℤ u)) *ℤ ((q *ℤ pos 1) *ℤ unit)
-    unit_product shape u q unit = simp factors
+    unit_product : (n q unit : ℤ) → n *ℤ (unit *ℤ (q *ℤ q)) ≡ n *ℤ ((q *ℤ q) *ℤ unit)
+    unit_product n q unit = simp factors
+
+-- a whole number over a denominator
+pub whole_within : (e : Ends) (u q : ℤ) → pos 0 <ℤ q → Within e (whole u) → Within e (fraction (q *ℤ u) q)
+unfolding whole
+whole_within e u q positive w = within-moved e _ _ (q *ℤ u) q positive (mul_comm u q ∙ sym (mul_one (q *ℤ u))) w
 
 -- the force of a linear law: what is past the initial deformation, times the stiffness
-pub force_within : (q reach stiffness : ℤ) (law : Law) (exact : ExactLaw) (kappa x y e : Ends) → pos 0 <ℤ q →
-    Within kappa (fraction stiffness q) → IsLawWithin q law exact → Within x (reach_fraction q reach) →
+pub force_within : (q reach stiffness d : ℤ) (law : Law) (exact : ExactLaw) (kappa x y e : Ends) → pos 0 <ℤ q →
+    Within kappa (fraction stiffness q) → IsLawWithin q law exact → IsOffsetWithin q law d → Within x (reach_fraction q reach) →
     ((a b : Fraction) → Within x a → Within (start_of law) b → Within y (minus a b)) →
     ((a b : Fraction) → Within kappa a → Within y b → Within e (times a b 36)) →
-    Within e (force_fraction q (stiffness *ℤ stretch q exact reach))
+    Within e (force_fraction q (stiffness *ℤ stretch q exact d reach))
 unfolding times
-force_within q reach stiffness (Linear offset) (linear d) kappa x y e positive kappa_within offset_within x_within less product =
+force_within q reach stiffness d (Linear offset) linear kappa x y e positive kappa_within kind offset_within x_within less product =
     let den = square_unit q positive in
     let start = within-moved offset d q ((pos (2 ^ 56) *ℤ q) *ℤ d) (pos (2 ^ 56) *ℤ (q *ℤ q)) den (over_square d q (pos (2 ^ 56))) offset_within in
     let past = difference_within y reach ((pos (2 ^ 56) *ℤ q) *ℤ d) (pos (2 ^ 56) *ℤ (q *ℤ q)) den (less _ _ x_within start) in

@@ -3,3 +3,4 @@ pub mod Rows
 pub mod Touching
 pub mod Turns
 pub mod RestLaw
+pub mod StretchLaw

@@ -9,7 +9,7 @@ use Rattle.flex_interval.specs.Fraction.{Within}
 use Rattle.member_set.specs.declared.members.Law.{Law}
 use Rattle.member_set.specs.declared.members.Law.TheVariants.{Linear}
 use Rattle.member_set.specs.Members.{nothing, start_of, member_of, law_of, load_of, shape_at}
-use Rattle.member_set.specs.Realisation.{fraction, ExactLaw, linear, ExactMember, IsLawWithin, lower_law, LowerEndsAreRealisation, RestIsEquilibrium, stretch, exact_reach, exact_force, force_in, exact_load}
+use Rattle.member_set.specs.Realisation.{fraction, ExactLaw, linear, ExactMember, IsLawWithin, IsOffsetWithin, lower_law, lower_offset, LowerEndsAreRealisation, RestIsEquilibrium, stretch, exact_reach, exact_force, force_in, exact_load}
 use Rattle.member_set.proofs.Rows.{nothing_is_zero}
 
 lower_within : (e : Ends) → e.lo ≤ℤ e.hi → Within e (fraction e.lo (pos 1))
@@ -20,45 +20,58 @@ lower_within e ordered =
       at_most = omega (arith, int_sums, mul_comm e.hi (pos 1), one-mul e.hi);
     }
 
-lower_law_within : (law : Law) → (start_of law).lo ≤ℤ (start_of law).hi → IsLawWithin (pos 1) law (lower_law law)
-lower_law_within (Linear offset) ordered = lower_within offset ordered
+lower_law_within : (law : Law) → IsLawWithin (pos 1) law (lower_law law)
+lower_law_within (Linear offset) = tt
+
+lower_offset_within : (law : Law) → (start_of law).lo ≤ℤ (start_of law).hi → IsOffsetWithin (pos 1) law (lower_offset law)
+lower_offset_within (Linear offset) ordered = lower_within offset ordered
 
 pub lower_ends_are_realisation : LowerEndsAreRealisation
 lower_ends_are_realisation s hold =
     record {
-      positive = omega (arith, ints);
-      all_rows = refl;
-      all_members = refl;
-      member_within = λ k inside.
-          record {
-            stiffness_within = lower_within (member_of s.structure k).kappa (hold.stiffnesses k inside);
-            shape_within = λ row. lower_within (shape_at (member_of s.structure k) row) (hold.shapes k row inside);
-            law_within = lower_law_within (law_of s.laws k) (hold.starts k inside);
-          };
-      load_within = λ row inside. lower_within (load_of s.loads row) (hold.loads_hold row inside);
+      stiffness = record {
+        positive = omega (arith, ints);
+        all_rows = refl;
+        all_members = refl;
+        member_within = λ k inside.
+            record {
+              stiffness_within = lower_within (member_of s.structure k).kappa (hold.stiffnesses k inside);
+              shape_within = λ row. lower_within (shape_at (member_of s.structure k) row) (hold.shapes k row inside);
+              law_within = lower_law_within (law_of s.laws k);
+            };
+      };
+      numbers = record {
+        offset_within = λ k inside. lower_offset_within (law_of s.laws k) (hold.starts k inside);
+        load_within = λ row inside. lower_within (load_of s.loads row) (hold.loads_hold row inside);
+      };
     }
 
 times_zero : (a : ℤ) → a *ℤ pos 0 ≡ pos 0
 times_zero a = mul_comm a (pos 0) ∙ zero-mul a
 
 -- no stretch at rest
-no_stretch : (q : ℤ) (law : ExactLaw) → IsLawWithin q (Linear nothing) law → stretch q law (pos 0) ≡ pos 0
-no_stretch q (linear d) within =
+no_stretch : (q d : ℤ) (law : ExactLaw) → IsOffsetWithin q (Linear nothing) d → IsLawWithin q (Linear nothing) law → stretch q law d (pos 0) ≡ pos 0
+no_stretch q d linear within kind =
     let none : (pos (2 ^ 56) *ℤ q) *ℤ d ≡ pos 0 = ap (λ (z : ℤ). (pos (2 ^ 56) *ℤ q) *ℤ z) (nothing_is_zero d q within) ∙ times_zero (pos (2 ^ 56) *ℤ q) in
     omega (arith, int_sums, none)
 
-no_force : (q : ℤ) (rows : ℕ) (m : ExactMember) → IsLawWithin q (Linear nothing) m.law → exact_force q m (exact_reach rows m (λ _. pos 0)) ≡ pos 0
-no_force q rows m within =
+no_force : (q d : ℤ) (rows : ℕ) (m : ExactMember) → IsOffsetWithin q (Linear nothing) d → IsLawWithin q (Linear nothing) m.law →
+    exact_force q m d (exact_reach rows m (λ _. pos 0)) ≡ pos 0
+no_force q d rows m within kind =
     let reach = sum_below-zero rows (λ row. m.shape row *ℤ pos 0) (λ row _. times_zero (m.shape row)) in
-    ap (λ (z : ℤ). m.stiffness *ℤ stretch q m.law z) reach ∙ ap (λ (z : ℤ). m.stiffness *ℤ z) (no_stretch q m.law within) ∙ times_zero m.stiffness
+    ap (λ (z : ℤ). m.stiffness *ℤ stretch q m.law d z) reach ∙ ap (λ (z : ℤ). m.stiffness *ℤ z) (no_stretch q d m.law within kind) ∙ times_zero m.stiffness
 
 pub rest_is_equilibrium : RestIsEquilibrium
 rest_is_equilibrium s r rest real row inside =
-    let q = r.denominator in
-    let load = nothing_is_zero (r.load row) q (subst (λ (e : Ends). Within e (fraction (r.load row) q)) (rest.no_load row (rw (← real.all_rows) inside)) (real.load_within row inside)) in
+    let q = r.stiffness.denominator in
+    let load = nothing_is_zero (r.numbers.load row) q
+    (subst (λ (e : Ends). Within e (fraction (r.numbers.load row) q)) (rest.no_load row (rw (← real.stiffness.all_rows) inside)) (real.numbers.load_within row inside)) in
     let unloaded : exact_load r row ≡ pos 0 = ap (λ (z : ℤ). (pos (2 ^ 148) *ℤ ((q *ℤ q) *ℤ q)) *ℤ z) load ∙ times_zero (pos (2 ^ 148) *ℤ ((q *ℤ q) *ℤ q)) in
-    let free = sum_below-zero r.members (λ k. (r.member k).shape row *ℤ force_in r (λ _. pos 0) k)
+    let free = sum_below-zero r.stiffness.members (λ k. (r.stiffness.member k).shape row *ℤ force_in r (λ _. pos 0) k)
     (λ k below.
-    let law = subst (λ (l : Law). IsLawWithin q l (r.member k).law) (rest.no_offset k (rw (← real.all_members) below)) (real.member_within k below).law_within in
-    ap (λ (z : ℤ). (r.member k).shape row *ℤ z) (no_force q r.rows (r.member k) law) ∙ times_zero ((r.member k).shape row)) in
+    let resting = rest.no_offset k (rw (← real.stiffness.all_members) below) in
+    let kind = subst (λ (l : Law). IsLawWithin q l (r.stiffness.member k).law) resting (real.stiffness.member_within k below).law_within in
+    let offset = subst (λ (l : Law). IsOffsetWithin q l (r.numbers.offset k)) resting (real.numbers.offset_within k below) in
+    ap (λ (z : ℤ). (r.stiffness.member k).shape row *ℤ z) (no_force q (r.numbers.offset k) r.stiffness.rows (r.stiffness.member k) offset kind)
+    ∙ times_zero ((r.stiffness.member k).shape row)) in
     free ∙ sym unloaded

@@ -70,13 +70,17 @@ touched_row-apart m p q p_inside q_inside same = grind (arith, nat_tests)
 pub nothing_is_zero : (n q : ℤ) → Within nothing (fraction n q) → n ≡ pos 0
 nothing_is_zero n q w = omega (arith, int_sums, zero-mul q, w.at_least, w.at_most)
 
+-- a place's row is one of the rows
+pub touched_row-inside : (m : Member) (rows p : ℕ) → p < place_count m → 6 * m.n1 + 6 ≤ rows → 6 * m.n2 + 6 ≤ rows → touched_row m p < rows
+touched_row-inside m rows p inside first second = grind (arith, nat_tests, place_count-le m)
+
 -- the sum over a member's places is that over all rows
 pub reach_by_places : (m : Member) (rows : ℕ) (shape u : ℕ → ℤ) → 6 * m.n1 + 6 ≤ rows → 6 * m.n2 + 6 ≤ rows →
     ((row : ℕ) → shape_at m row ≡ nothing → shape row ≡ pos 0) →
     sum_below (place_count m) (λ p. shape (touched_row m p) *ℤ u (touched_row m p)) ≡ sum_below rows (λ row. shape row *ℤ u row)
 reach_by_places m rows shape u first second none =
     sum_below-reindexed (place_count m) rows (touched_row m) (λ row. shape row *ℤ u row)
-    (λ p inside. grind (arith, nat_tests, place_count-le m))
+    (λ p inside. touched_row-inside m rows p inside first second)
     (touched_row-apart m)
     (λ row inside. elim (shape_at-elsewhere m row) [
       | inl off ↦ inl (ap (λ (z : ℤ). z *ℤ u row) (none row off) ∙ zero-mul (u row))

@@ -13,7 +13,7 @@ use Rattle.member_set.specs.declared.members.Member.{Member}
 use Rattle.member_set.specs.declared.members.Built.{Built}
 use Rattle.member_set.specs.declared.members.Law.{Law}
 use Rattle.member_set.specs.Members.{load_of, force_of, row_count, IsBuilt, member_of, members_at, built_nodes, no_member, nothing, shape_at, system}
-use Rattle.member_set.specs.Interval.{Outcome, in_turn, pull_of, residual_term, residual_with, residual_of, forces_of, AreForces}
+use Rattle.member_set.specs.Interval.{Outcome, in_turn, pull_of, residual_term, residual_with, residual_of, forces_of, HaveForces}
 use Rattle.member_set.proofs.Turns.{in_turn-next, in_turn-fault, in_turn-same, in_turn-some_fault}
 use Rattle.flex_interval.specs.Ends.{Ends}
 use Rattle.flex_interval.specs.declared.fault.IvFault.{IvFault}
@@ -107,10 +107,10 @@ residual_with-same b built loads f g row inside same =
     in_turn-same sub_of (load_of loads row) (residual_term b f row) (residual_term b g row) (length (members_at b (row / 6)))
     (λ t below. rw (same (slice_index (members_at b (row / 6)) t) (numbers_in_range b built (row / 6) t (omega arith) below)))
 
-pub residual_from-forces : (b : Built) → IsBuilt b → (laws : List Law) (loads : List Ends) (u : List ℤ) (forces : List Ends) (row : ℕ) → row < row_count b →
-    AreForces b laws u forces → residual_with b loads (λ k. ok_of (force_of forces k)) row ≡ residual_of (system b laws loads) u row
-residual_from-forces b built laws loads u forces row inside are =
-    residual_with-same b built loads (λ k. ok_of (force_of forces k)) (forces_of b laws u) row inside (λ k below. sym (are.value k below))
+pub residual_from-forces : (b : Built) → IsBuilt b → (loads : List Ends) (force : ℕ → Outcome) (forces : List Ends) (row : ℕ) → row < row_count b →
+    HaveForces b force forces → residual_with b loads (λ k. ok_of (force_of forces k)) row ≡ residual_with b loads force row
+residual_from-forces b built loads force forces row inside have =
+    residual_with-same b built loads (λ k. ok_of (force_of forces k)) force row inside (λ k below. sym (have.value k below))
 
 -- where a member has no force, a row of its first node has no residual
 pub residual-without_force : (b : Built) → IsBuilt b → (laws : List Law) (u : List ℤ) (k : ℕ) (fault : IvFault) → k < length b.members →

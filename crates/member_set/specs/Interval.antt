@@ -38,13 +38,20 @@ place_count m = if m.n1 == m.n2 then 6 else 12
 abbrev pub touched_row : Member → ℕ → ℕ
 touched_row m place = if nat_lt place 6 then 6 * m.n1 + place else 6 * m.n2 + (place - 6)
 
+-- a displacement of each row, as an interval: u itself, or bounds of it
+abbrev pub points : List ℤ → ℕ → Ends
+points u row = point_of (slice_index_or u row (pos 0))
+
+abbrev pub intervals : List Ends → ℕ → Ends
+intervals bounds row = slice_index_or bounds row nothing
+
 -- one term of w.u
-abbrev pub reach_term : Member → List ℤ → ℕ → Outcome
-reach_term m u place = mul_of (slice_index_or m.w place nothing) (point_of (slice_index_or u (touched_row m place) (pos 0))) 56
+abbrev pub reach_term : Member → (ℕ → Ends) → ℕ → Outcome
+reach_term m displacement place = mul_of (slice_index_or m.w place nothing) (displacement (touched_row m place)) 56
 
 -- w.u
-unfoldable pub reach_of : Member → List ℤ → Outcome
-reach_of m u = in_turn add_of nothing (reach_term m u) (place_count m)
+unfoldable pub reach_of : Member → (ℕ → Ends) → Outcome
+reach_of m displacement = in_turn add_of nothing (reach_term m displacement) (place_count m)
 
 -- the force by the law: kappa (x - offset)
 abbrev pub law_force_of : Member → Law → Ends → Outcome
@@ -56,7 +63,7 @@ limited_force f = if nat_lt (unsigned_abs f.lo) (2 ^ 66) && nat_lt (unsigned_abs
 
 -- the force of a member at displacements u, below 2^66 in size
 unfoldable pub member_force_of : Member → Law → List ℤ → Outcome
-member_force_of m law u = and_then (reach_of m u) (λ x. and_then (law_force_of m law x) limited_force)
+member_force_of m law u = and_then (reach_of m (points u)) (λ x. and_then (law_force_of m law x) limited_force)
 
 -- w_row times a force
 abbrev pub pull_of : Member → ℕ → Ends → Outcome
@@ -80,7 +87,7 @@ forces_of b laws u k = member_force_of (member_of b k) (law_of laws k) u
 abbrev pub residual_of : System → List ℤ → ℕ → Outcome
 residual_of s u row = residual_with s.structure s.loads (forces_of s.structure s.laws u) row
 
--- the list has each member's force at displacements u
-pub record AreForces (b : Built) (laws : List Law) (u : List ℤ) (forces : List Ends) : Type 0 where
+-- the list has each member's force
+pub record HaveForces (b : Built) (force : ℕ → Outcome) (forces : List Ends) : Type 0 where
   pub one_each : length forces ≡ length b.members
-  pub value : (k : ℕ) → k < length b.members → forces_of b laws u k ≡ Ok (force_of forces k)
+  pub value : (k : ℕ) → k < length b.members → force k ≡ Ok (force_of forces k)

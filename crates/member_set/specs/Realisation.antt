@@ -3,12 +3,13 @@
 --
 -- A number of a realisation stands over the realisation's denominator, in the unit of its enclosure: stiffnesses in
 -- 2^-20 N/m, shape numbers in 2^-56, displacements and initial deformations in 2^-56 m or rad, loads in 2^-40 N or N m.
-use Rattle.std.specs.Prelude.{ℕ, ◌^◌, ◌<◌, ◌≡◌, List, length, slice_index_or, Bool, true, if◌then◌else◌, ℤ, pos, ◌-ℤ◌, ◌*ℤ◌, ◌<ℤ◌, ◌≤ℤ◌}
+use Rattle.std.specs.Prelude.{ℕ, ◌^◌, ◌<◌, ◌≡◌, List, length, slice_index_or, Bool, true, if◌then◌else◌, ℤ, pos, ◌-ℤ◌, ◌*ℤ◌, ◌<ℤ◌, ◌≤ℤ◌, ⊤}
 use Rattle.int_laws.specs.Sums.{sum_below}
 use Rattle.int_laws.specs.Matrices.{Vector, Entries}
 use Rattle.flex_interval.specs.Ends.{Ends}
 use Rattle.flex_interval.specs.Fraction.{Fraction, Within}
 use Rattle.member_set.specs.declared.members.Member.{Member}
+use Rattle.member_set.specs.declared.members.Built.{Built}
 use Rattle.member_set.specs.declared.members.Law.{Law}
 use Rattle.member_set.specs.declared.members.Law.TheVariants.{Linear}
 use Rattle.member_set.specs.Members.{nothing, shape_at, start_of, member_of, law_of, load_of, force_of, row_count, System}
@@ -17,9 +18,9 @@ use Rattle.member_set.specs.Members.{nothing, shape_at, start_of, member_of, law
 abbrev pub fraction : ℤ → ℤ → Fraction
 fraction n q = record { num = n; den = q }
 
--- a member's law in a realisation: linear, with an initial deformation
+-- a member's law in a realisation. A linear law has no number of its own: where its force begins is a number of the case
 pub data ExactLaw : Type 0 where
-  linear : ℤ → ExactLaw
+  linear : ExactLaw
 
 -- a member in a realisation: its stiffness K, its shape number W on each row, and its law
 pub record ExactMember : Type 0 where
@@ -27,18 +28,32 @@ pub record ExactMember : Type 0 where
   pub shape : Vector
   pub law : ExactLaw
 
-pub record Realisation : Type 0 where
+-- the numbers of a structure, whatever the case: its members over a denominator
+pub record Stiffness : Type 0 where
   pub denominator : ℤ
   pub rows : ℕ
   pub members : ℕ
   pub member : ℕ → ExactMember
+
+-- the numbers of a case, over the denominator of a stiffness: the initial deformation of each member, and the load of each row
+pub record CaseNumbers : Type 0 where
+  pub offset : Vector
   pub load : Vector
+
+-- a structure under the loads of a case. Two cases of one structure can have one and the same stiffness
+pub record Realisation : Type 0 where
+  pub stiffness : Stiffness
+  pub numbers : CaseNumbers
 
 -- ---- what a realisation is of
 
--- the law's number is within its interval
+-- the law is of its kind, and a number of its own is within its interval
 abbrev pub IsLawWithin : ℤ → Law → ExactLaw → Type 0
-IsLawWithin q (Linear offset) (linear d) = Within offset (fraction d q)
+IsLawWithin q (Linear offset) linear = ⊤
+
+-- the initial deformation is within its interval
+abbrev pub IsOffsetWithin : ℤ → Law → ℤ → Type 0
+IsOffsetWithin q (Linear offset) d = Within offset (fraction d q)
 
 -- each number of a member is within its interval
 pub record IsMemberWithin (q : ℤ) (m : Member) (law : Law) (x : ExactMember) : Type 0 where
@@ -46,13 +61,22 @@ pub record IsMemberWithin (q : ℤ) (m : Member) (law : Law) (x : ExactMember) :
   pub shape_within : (row : ℕ) → Within (shape_at m row) (fraction (x.shape row) q)
   pub law_within : IsLawWithin q law x.law
 
--- each stiffness, shape number, initial deformation and load is within its interval, whatever the others are
+-- each stiffness and shape number of the structure is within its interval, whatever the others are
+pub record IsStiffnessOf (b : Built) (laws : List Law) (s : Stiffness) : Type 0 where
+  pub positive : pos 0 <ℤ s.denominator
+  pub all_rows : s.rows ≡ row_count b
+  pub all_members : s.members ≡ length b.members
+  pub member_within : (k : ℕ) → k < s.members → IsMemberWithin s.denominator (member_of b k) (law_of laws k) (s.member k)
+
+-- each initial deformation and load is within its interval, over the denominator of the stiffness
+pub record AreCaseNumbers (s : System) (stiffness : Stiffness) (numbers : CaseNumbers) : Type 0 where
+  pub offset_within : (k : ℕ) → k < stiffness.members → IsOffsetWithin stiffness.denominator (law_of s.laws k) (numbers.offset k)
+  pub load_within : (row : ℕ) → row < stiffness.rows → Within (load_of s.loads row) (fraction (numbers.load row) stiffness.denominator)
+
+-- the stiffness is one of the structure, and the numbers are some of the case
 pub record IsRealisation (s : System) (r : Realisation) : Type 0 where
-  pub positive : pos 0 <ℤ r.denominator
-  pub all_rows : r.rows ≡ row_count s.structure
-  pub all_members : r.members ≡ length s.structure.members
-  pub member_within : (k : ℕ) → k < r.members → IsMemberWithin r.denominator (member_of s.structure k) (law_of s.laws k) (r.member k)
-  pub load_within : (row : ℕ) → row < r.rows → Within (load_of s.loads row) (fraction (r.load row) r.denominator)
+  pub stiffness : IsStiffnessOf s.structure s.laws r.stiffness
+  pub numbers : AreCaseNumbers s r.stiffness r.numbers
 
 -- ---- forces and equilibrium at displacements U, whole numbers over the denominator q
 
@@ -60,28 +84,49 @@ pub record IsRealisation (s : System) (r : Realisation) : Type 0 where
 abbrev pub exact_reach : ℕ → ExactMember → Vector → ℤ
 exact_reach rows m u = sum_below rows (λ row. m.shape row *ℤ u row)
 
--- what of a reach counts for the force: all that is past the initial deformation
-abbrev pub stretch : ℤ → ExactLaw → ℤ → ℤ
-stretch q (linear d) reach = reach -ℤ ((pos (2 ^ 56) *ℤ q) *ℤ d)
+-- what of a reach counts for the force, with an initial deformation: all that is past it, where the law is linear
+abbrev pub stretch : ℤ → ExactLaw → ℤ → ℤ → ℤ
+stretch q linear offset reach = reach -ℤ ((pos (2 ^ 56) *ℤ q) *ℤ offset)
+
+-- the force is proportional to all that is past the initial deformation
+abbrev pub is_linear : ExactLaw → Bool
+is_linear linear = true
 
 -- F = K (W.U - 2^56 q D): 2^92 q^3 times the member's force
-abbrev pub exact_force : ℤ → ExactMember → ℤ → ℤ
-exact_force q m reach = m.stiffness *ℤ stretch q m.law reach
+abbrev pub exact_force : ℤ → ExactMember → ℤ → ℤ → ℤ
+exact_force q m offset reach = m.stiffness *ℤ stretch q m.law offset reach
+
+-- how far displacements reach along a member
+abbrev pub reach_in : Stiffness → Vector → ℕ → ℤ
+reach_in s u k = exact_reach s.rows (s.member k) u
 
 abbrev pub force_in : Realisation → Vector → ℕ → ℤ
-force_in r u k = exact_force r.denominator (r.member k) (exact_reach r.rows (r.member k) u)
+force_in r u k = exact_force r.stiffness.denominator (r.stiffness.member k) (r.numbers.offset k) (reach_in r.stiffness u k)
 
 -- the sum over the members of W_row F: what they hold against the load of a row
 abbrev pub resistance : Realisation → Vector → ℕ → ℤ
-resistance r u row = sum_below r.members (λ k. (r.member k).shape row *ℤ force_in r u k)
+resistance r u row = sum_below r.stiffness.members (λ k. (r.stiffness.member k).shape row *ℤ force_in r u k)
+
+-- ---- what every law keeps
+
+-- with s the change of what counts of a reach, and d the change of the reach: s s ≤ s d, and s = d where the law is linear
+pub record KeepsStretch (law : ExactLaw) (s d : ℤ) : Type 0 where
+  pub between : (s *ℤ s) ≤ℤ (s *ℤ d)
+  pub whole : is_linear law ≡ true → s ≡ d
+
+-- each law does, from any reach to any other
+abbrev pub LawsKeepStretch : Type 0
+LawsKeepStretch = (q : ℤ) (law : ExactLaw) (offset x y : ℤ) →
+    KeepsStretch law (stretch q law offset x -ℤ stretch q law offset y) (x -ℤ y)
 
 -- 2^148 q^3 L
 abbrev pub exact_load : Realisation → ℕ → ℤ
-exact_load r row = (pos (2 ^ 148) *ℤ ((r.denominator *ℤ r.denominator) *ℤ r.denominator)) *ℤ r.load row
+exact_load r row =
+    (pos (2 ^ 148) *ℤ ((r.stiffness.denominator *ℤ r.stiffness.denominator) *ℤ r.stiffness.denominator)) *ℤ r.numbers.load row
 
 -- every row is in balance
 abbrev pub IsEquilibrium : Realisation → Vector → Type 0
-IsEquilibrium r u = (row : ℕ) → row < r.rows → resistance r u row ≡ exact_load r row
+IsEquilibrium r u = (row : ℕ) → row < r.stiffness.rows → resistance r u row ≡ exact_load r row
 
 -- ---- the stiffness matrix
 
@@ -93,11 +138,20 @@ entry_unit q = pos (2 ^ 112) *ℤ ((q *ℤ q) *ℤ q)
 abbrev pub every_member : ℕ → Bool
 every_member k = true
 
+-- the members whose law is linear, which take part at all displacements
+abbrev pub linear_members : Stiffness → ℕ → Bool
+linear_members s k = is_linear (s.member k).law
+
 -- the entry in a row and column: the sum of W_row K W_col over the members that take part, 2^112 q^3 times its value
-abbrev pub exact_entry : (ℕ → Bool) → Realisation → Entries
-exact_entry takes_part r row col =
-    sum_below r.members (λ k.
-    if takes_part k then (r.member k).shape row *ℤ ((r.member k).stiffness *ℤ (r.member k).shape col) else pos 0)
+abbrev pub exact_entry : (ℕ → Bool) → Stiffness → Entries
+exact_entry takes_part s row col =
+    sum_below s.members (λ k.
+    if takes_part k then (s.member k).shape row *ℤ ((s.member k).stiffness *ℤ (s.member k).shape col) else pos 0)
+
+-- where all laws are linear, every member takes part at all displacements
+abbrev pub LinearIsEveryMember : Type 0
+LinearIsEveryMember = (s : Stiffness) → ((k : ℕ) → k < s.members → is_linear (s.member k).law ≡ true) → (row col : ℕ) →
+    exact_entry (linear_members s) s row col ≡ exact_entry every_member s row col
 
 -- ---- displacements in whole units
 
@@ -119,30 +173,40 @@ pull_fraction q pull = fraction pull (pos (2 ^ 148) *ℤ (((q *ℤ q) *ℤ q) *�
 
 -- each member's force at displacements U is within its interval
 abbrev pub HoldForces : Realisation → Vector → List Ends → Type 0
-HoldForces r u forces = (k : ℕ) → k < r.members → Within (force_of forces k) (force_fraction r.denominator (force_in r u k))
+HoldForces r u forces = (k : ℕ) → k < r.stiffness.members →
+    Within (force_of forces k) (force_fraction r.stiffness.denominator (force_in r u k))
 
 -- what is left of a row's load: 0 in an equilibrium
 abbrev pub exact_residual : Realisation → Vector → ℕ → Fraction
-exact_residual r u row = pull_fraction r.denominator (exact_load r row -ℤ resistance r u row)
+exact_residual r u row = pull_fraction r.stiffness.denominator (exact_load r row -ℤ resistance r u row)
 
 -- ---- what is always there
 
 -- all lower ends, over 1
 abbrev pub lower_law : Law → ExactLaw
-lower_law (Linear offset) = linear offset.lo
+lower_law (Linear offset) = linear
+
+abbrev pub lower_offset : Law → ℤ
+lower_offset (Linear offset) = offset.lo
+
+abbrev pub lower_stiffness : Built → List Law → Stiffness
+lower_stiffness b laws =
+    record {
+      denominator = pos 1;
+      rows = row_count b;
+      members = length b.members;
+      member = λ k. record {
+        stiffness = (member_of b k).kappa.lo;
+        shape = λ row. (shape_at (member_of b k) row).lo;
+        law = lower_law (law_of laws k);
+      };
+    }
 
 abbrev pub lower_ends : System → Realisation
 lower_ends s =
     record {
-      denominator = pos 1;
-      rows = row_count s.structure;
-      members = length s.structure.members;
-      member = λ k. record {
-        stiffness = (member_of s.structure k).kappa.lo;
-        shape = λ row. (shape_at (member_of s.structure k) row).lo;
-        law = lower_law (law_of s.laws k);
-      };
-      load = λ row. (load_of s.loads row).lo;
+      stiffness = lower_stiffness s.structure s.laws;
+      numbers = record { offset = λ k. lower_offset (law_of s.laws k); load = λ row. (load_of s.loads row).lo };
     }
 
 -- every interval holds a number

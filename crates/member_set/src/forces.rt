@@ -1,8 +1,9 @@
 ghost use Rattle.std.specs.Prelude.{◌≡◌, ℕ, ◌+◌, ◌*◌, ◌<◌, ◌≤◌, length, slice_index_or, ℤ, pos, ◌*ℤ◌, ◌<ℤ◌, IfOk};
 ghost use Rattle.flex_interval.specs.Fraction.{Within};
 ghost use Rattle.member_set.specs.Members.{start_of, IsModerate, shape_at, nothing};
-ghost use Rattle.member_set.specs.Realisation.{ExactMember, IsLawWithin, IsMemberWithin, stretch, displaced, exact_reach, exact_force, reach_fraction, force_fraction, fraction};
-ghost use Rattle.member_set.specs.Interval.{place_count, touched_row, reach_term, reach_of, law_force_of};
+ghost use Rattle.member_set.specs.Realisation.{ExactMember, IsMemberWithin, displaced, exact_reach, exact_force, reach_fraction, force_fraction, fraction, IsOffsetWithin};
+ghost use Rattle.member_set.specs.Interval.{place_count, touched_row, reach_term, reach_of, law_force_of, points, intervals};
+ghost use Rattle.int_laws.specs.Matrices.{Vector};
 
 use crate::members::{Law, Member};
 use flex_interval::{Iv, IvFault};
@@ -12,7 +13,7 @@ pub fn reach(m: &Member, u: &[i128]) -> Result<Iv, IvFault>
     requires first_node { 6 * m.now.n1 + 6 ≤ length u.now }
     requires second_node { 6 * m.now.n2 + 6 ≤ length u.now }
     requires moderate { IsModerate u.now }
-    ensures value { result ≡ reach_of m.now u.now }
+    ensures value { result ≡ reach_of m.now (points u.now) }
     ensures within { IfOk result (λ e. (q : ℤ) (x : ExactMember) → pos 0 <ℤ q →
         ((row : ℕ) → Within (shape_at m.now row) (fraction (x.shape row) q)) →
         Within e (reach_fraction q (exact_reach (length u.now) x (displaced q u.now)))) }
@@ -20,6 +21,23 @@ pub fn reach(m: &Member, u: &[i128]) -> Result<Iv, IvFault>
     let mut total = flex_interval::point(0);
     for place in 0..place_count(m) {
         total = flex_interval::add(total, reach_term(m, u, place)?)?;
+    }
+    Ok(total)
+}
+
+/// How far displacements that lie within `bounds`, one for each row in units of 2^-56 m or rad, reach along a member.
+pub fn reach_between(m: &Member, bounds: &[Iv]) -> Result<Iv, IvFault>
+    requires first_node { 6 * m.now.n1 + 6 ≤ length bounds.now }
+    requires second_node { 6 * m.now.n2 + 6 ≤ length bounds.now }
+    ensures value { result ≡ reach_of m.now (intervals bounds.now) }
+    ensures within { IfOk result (λ e. (q : ℤ) (x : ExactMember) (u : Vector) → pos 0 <ℤ q →
+        ((row : ℕ) → Within (shape_at m.now row) (fraction (x.shape row) q)) →
+        ((row : ℕ) → row < length bounds.now → Within (intervals bounds.now row) (fraction (u row) q)) →
+        Within e (reach_fraction q (exact_reach (length bounds.now) x u))) }
+{
+    let mut total = flex_interval::point(0);
+    for place in 0..place_count(m) {
+        total = flex_interval::add(total, term_between(m, bounds, place)?)?;
     }
     Ok(total)
 }
@@ -49,7 +67,7 @@ fn reach_term(m: &Member, u: &[i128], place: usize) -> Result<Iv, IvFault>
     requires first_node { 6 * m.now.n1 + 6 ≤ length u.now }
     requires second_node { 6 * m.now.n2 + 6 ≤ length u.now }
     requires moderate { IsModerate u.now }
-    ensures value { result ≡ reach_term m.now u.now place }
+    ensures value { result ≡ reach_term m.now (points u.now) place }
     ensures within { IfOk result (λ e. (q shape : ℤ) → pos 0 <ℤ q → Within (slice_index_or m.now.w place nothing) (fraction shape q) →
         Within e (reach_fraction q (shape *ℤ displaced q u.now (touched_row m.now place)))) }
 {
@@ -60,11 +78,24 @@ fn reach_term(m: &Member, u: &[i128], place: usize) -> Result<Iv, IvFault>
     )
 }
 
+/// The same, where the displacements lie within bounds.
+fn term_between(m: &Member, bounds: &[Iv], place: usize) -> Result<Iv, IvFault>
+    requires place_in_range { place < 12 }
+    requires first_node { 6 * m.now.n1 + 6 ≤ length bounds.now }
+    requires second_node { 6 * m.now.n2 + 6 ≤ length bounds.now }
+    ensures value { result ≡ reach_term m.now (intervals bounds.now) place }
+    ensures within { IfOk result (λ e. (q shape u : ℤ) → pos 0 <ℤ q → Within (slice_index_or m.now.w place nothing) (fraction shape q) →
+        Within (intervals bounds.now (touched_row m.now place)) (fraction u q) → Within e (reach_fraction q (shape *ℤ u))) }
+{
+    flex_interval::mul(m.w[place], bounds[touched_row(m, place)], 56)
+}
+
 /// The force of a member with a reach, in units of 2^-40 N or N m.
 pub fn law_force(m: &Member, law: &Law, x: Iv) -> Result<Iv, IvFault>
     ensures value { result ≡ law_force_of m.now law.now x }
-    ensures within { IfOk result (λ e. (q reach : ℤ) (exact : ExactMember) → pos 0 <ℤ q → IsMemberWithin q m.now law.now exact →
-        Within x (reach_fraction q reach) → Within e (force_fraction q (exact_force q exact reach))) }
+    ensures within { IfOk result (λ e. (q reach offset : ℤ) (exact : ExactMember) → pos 0 <ℤ q → IsMemberWithin q m.now law.now exact →
+        IsOffsetWithin q law.now offset → Within x (reach_fraction q reach) →
+        Within e (force_fraction q (exact_force q exact offset reach))) }
 {
     flex_interval::mul(m.kappa, flex_interval::sub(x, start(law))?, 36)
 }

@@ -6,8 +6,8 @@ mod laws;
 mod members;
 mod residuals;
 
-pub use forces::{law_force, reach};
-pub use laws::{faults_stay, rest_is_equilibrium};
+pub use forces::{law_force, reach, reach_between};
+pub use laws::{faults_stay, laws_keep_stretch, rest_is_equilibrium};
 pub use lists::Sequence;
 pub use members::{Built, Law, Member, Station};
 pub use residuals::{

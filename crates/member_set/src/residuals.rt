@@ -6,9 +6,9 @@ ghost use Rattle.flex_interval.specs.Operations.{sub_of};
 ghost use Rattle.lists.specs.Results.{and_then};
 ghost use Rattle.member_set.specs.declared.members.Law.{Law};
 ghost use Rattle.member_set.specs.Members.{IsBuilt, IsSystem, IsModerate, nothing, shape_at, member_of, row_count, members_at, force_of, system};
-ghost use Rattle.member_set.specs.Realisation.{ExactMember, IsMemberWithin, Realisation, IsRealisation, HoldForces, displaced, exact_reach, exact_force, force_in, force_fraction, pull_fraction, exact_residual, fraction};
+ghost use Rattle.member_set.specs.Realisation.{ExactMember, IsMemberWithin, IsOffsetWithin, Realisation, IsRealisation, HoldForces, displaced, exact_reach, exact_force, force_in, force_fraction, pull_fraction, exact_residual, fraction};
 ghost use Rattle.int_laws.specs.Matrices.{Vector};
-ghost use Rattle.member_set.specs.Interval.{limited_force, AreForces, member_force_of, pull_of, residual_with, residual_of};
+ghost use Rattle.member_set.specs.Interval.{Outcome, limited_force, HaveForces, forces_of, member_force_of, pull_of, residual_with, residual_of};
 
 use crate::forces::{law_force, reach};
 use crate::members::{Built, Law, Member};
@@ -24,8 +24,9 @@ pub fn member_force(m: &Member, law: &Law, u: &[i128]) -> Result<Iv, IvFault>
     requires second_node { 6 * m.now.n2 + 6 ≤ length u.now }
     requires moderate { IsModerate u.now }
     ensures value { result ≡ member_force_of m.now law.now u.now }
-    ensures within { IfOk result (λ e. (q : ℤ) (x : ExactMember) → pos 0 <ℤ q → IsMemberWithin q m.now law.now x →
-        Within e (force_fraction q (exact_force q x (exact_reach (length u.now) x (displaced q u.now))))) }
+    ensures within { IfOk result (λ e. (q offset : ℤ) (x : ExactMember) → pos 0 <ℤ q → IsMemberWithin q m.now law.now x →
+        IsOffsetWithin q law.now offset →
+        Within e (force_fraction q (exact_force q x offset (exact_reach (length u.now) x (displaced q u.now))))) }
 {
     limited(law_force(m, law, reach(m, u)?)?)
 }
@@ -82,9 +83,9 @@ fn less_member(m: &Member, law: &Law, u: &[i128], row: u32, rest: Iv) -> Result<
     requires second_node { 6 * m.now.n2 + 6 ≤ length u.now }
     requires moderate { IsModerate u.now }
     ensures value { result ≡ and_then (and_then (member_force_of m.now law.now u.now) (pull_of m.now row)) (sub_of rest) }
-    ensures within { IfOk result (λ e. (q : ℤ) (x : ExactMember) (left : ℤ) → pos 0 <ℤ q → IsMemberWithin q m.now law.now x →
-        Within rest (pull_fraction q left) →
-        Within e (pull_fraction q (left -ℤ (x.shape row *ℤ exact_force q x (exact_reach (length u.now) x (displaced q u.now)))))) }
+    ensures within { IfOk result (λ e. (q offset : ℤ) (x : ExactMember) (left : ℤ) → pos 0 <ℤ q → IsMemberWithin q m.now law.now x →
+        IsOffsetWithin q law.now offset → Within rest (pull_fraction q left) →
+        Within e (pull_fraction q (left -ℤ (x.shape row *ℤ exact_force q x offset (exact_reach (length u.now) x (displaced q u.now)))))) }
 {
     less_pull(m, row, rest, member_force(m, law, u)?)
 }
@@ -111,9 +112,9 @@ pub fn member_forces(b: &Built, laws: &[Law], u: &[i128], forces: &mut [Iv]) -> 
     requires one_displacement_each { length u.now ≡ row_count b.now }
     requires moderate { IsModerate u.now }
     requires one_force_each { length forces.old ≡ length b.now.members }
-    ensures forces { OnOk result (AreForces b.now laws.now u.now forces.new) }
+    ensures forces { OnOk result (HaveForces b.now (forces_of b.now laws.now u.now) forces.new) }
     ensures within { OnOk result ((loads : List Ends) (r : Realisation) → IsRealisation (system b.now laws.now loads) r →
-        HoldForces r (displaced r.denominator u.now) forces.new) }
+        HoldForces r (displaced r.stiffness.denominator u.now) forces.new) }
     ensures fault { IfErr result (λ e. (loads : List Ends) → (row : ℕ) × (row < row_count b.now) × IsErr (residual_of (system b.now laws.now loads) u.now row)) }
 {
     for k in 0..laws.len() {
@@ -128,8 +129,7 @@ pub fn residual_from(b: &Built, forces: &[Iv], loads: &[Iv], row: u32) -> Result
     requires one_load_each { length loads.now ≡ row_count b.now }
     requires one_force_each { length forces.now ≡ length b.now.members }
     requires row_in_range { row < row_count b.now }
-    ensures value { result ≡ residual_with b.now loads.now (λ k. Ok (force_of forces.now k)) row }
-    ensures at_displacements { (laws : List Law) (u : List ℤ) → AreForces b.now laws u forces.now → result ≡ residual_of (system b.now laws loads.now) u row }
+    ensures value { (force : ℕ → Outcome) → HaveForces b.now force forces.now → result ≡ residual_with b.now loads.now force row }
     ensures within { IfOk result (λ e. (laws : List Law) (r : Realisation) (u : Vector) → IsRealisation (system b.now laws loads.now) r →
         HoldForces r u forces.now → Within e (exact_residual r u row)) }
 {
@@ -160,7 +160,7 @@ pub fn residual_row(
     requires row_in_range { row < row_count b.now }
     ensures value { result ≡ residual_of (system b.now laws.now loads.now) u.now row }
     ensures within { IfOk result (λ e. (r : Realisation) → IsRealisation (system b.now laws.now loads.now) r →
-        Within e (exact_residual r (displaced r.denominator u.now) row)) }
+        Within e (exact_residual r (displaced r.stiffness.denominator u.now) row)) }
 {
     let mut rest = loads[row as usize];
     for &k in members_at(b, row) {

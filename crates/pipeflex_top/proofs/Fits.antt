@@ -17,7 +17,7 @@ use Rattle.flex_interval.specs.declared.fault.Wide.{Wide}
 use Rattle.member_set.specs.declared.members.Built.{Built}
 use Rattle.member_set.specs.declared.members.Law.{Law}
 use Rattle.member_set.specs.declared.members.Member.{Member}
-use Rattle.member_set.specs.Interval.{Outcome, AreForces, forces_of}
+use Rattle.member_set.specs.Interval.{Outcome, forces_of}
 use Rattle.member_set.specs.Members.{IsModerate, force_of, member_of, nothing, row_count, system}
 use Rattle.model_types.specs.Lists.{Lists}
 use Rattle.model_types.specs.declared.answers.Bounds.{Bounds}

@@ -13,8 +13,8 @@ use Rattle.report.specs.Rounding.{PrintedHolds}
 
 in_print : PrintedHolds → (m : Lists) (r : Realisation) (exact : Vector) (u loads : List Bounds) → AreWithin r exact (element_member_count m) u loads → AreInPrint m r exact u loads
 in_print holds m r exact u loads within = record {
-  displacement = λ row inside. holds (pos (10 ^ 9)) (pos (2 ^ 56)) (omega arith) (omega arith) (bounds_at u row) (fraction (exact row) r.denominator) (within.displacement row inside);
-  load = λ k inside. holds (pos 1000) (pos (2 ^ 40)) (omega arith) (omega arith) (bounds_at loads k) (force_fraction r.denominator (force_in r exact (element_member_count m + k))) (within.load k inside);
+  displacement = λ row inside. holds (pos (10 ^ 9)) (pos (2 ^ 56)) (omega arith) (omega arith) (bounds_at u row) (fraction (exact row) r.stiffness.denominator) (within.displacement row inside);
+  load = λ k inside. holds (pos 1000) (pos (2 ^ 40)) (omega arith) (omega arith) (bounds_at loads k) (force_fraction r.stiffness.denominator (force_in r exact (element_member_count m + k))) (within.load k inside);
 }
 
 prints : PrintedHolds → (m : Lists) (case : ℕ) (a : CaseAnswer) → HoldsAlways m case a → PrintsBounds m case a

@@ -27,9 +27,9 @@ IsPrintedLoad b x = Within (ends_of_pair (printed (pos 1000) (pos (2 ^ 40)) b)) 
 
 -- each displacement, and the force of each restraint's member, is within its printed pair
 pub record AreInPrint (m : Lists) (r : Realisation) (exact : Vector) (u loads : List Bounds) : Type 0 where
-  pub displacement : (row : ℕ) → row < r.rows → IsPrintedDisplacement (bounds_at u row) (fraction (exact row) r.denominator)
-  pub load : (k : ℕ) → element_member_count m + k < r.members →
-      IsPrintedLoad (bounds_at loads k) (force_fraction r.denominator (force_in r exact (element_member_count m + k)))
+  pub displacement : (row : ℕ) → row < r.stiffness.rows → IsPrintedDisplacement (bounds_at u row) (fraction (exact row) r.stiffness.denominator)
+  pub load : (k : ℕ) → element_member_count m + k < r.stiffness.members →
+      IsPrintedLoad (bounds_at loads k) (force_fraction r.stiffness.denominator (force_in r exact (element_member_count m + k)))
 
 -- certified bounds hold in print, in every equilibrium of every realisation of the model's structure under the loads of the case
 abbrev pub PrintsBounds : Lists → ℕ → CaseAnswer → Type 0

@@ -7,7 +7,7 @@ pub returns : goal.returns
 returns c =
     record {
       matrix = matrix_exists;
-      near = equilibria_near;
+      near = equilibria_near c.laws_keep_stretch.ensures.keep;
       enclosed = near_enclosed;
       length = sizes_give_length;
       radii = rounded_radii_are_enough;

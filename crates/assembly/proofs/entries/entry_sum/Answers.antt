@@ -13,7 +13,7 @@ loop-k-init c =
       items = c.members_at-k-items.ensures.numbers;
       inside = c.members_at-k-items.ensures.in_range;
       value = rw c.point-total.ensures.value;
-      within = λ laws loads r real. rw c.point-total.ensures.value (nothing_within r.denominator real.positive);
+      within = λ laws s real. rw c.point-total.ensures.value (nothing_within s.denominator real.positive);
     }
 
 pub returns-in_err-total-clause-value : goal.returns-in_err-total-clause-value
@@ -39,11 +39,11 @@ loop-k-preserved c =
       inside = c.loop-k.invariant.inside;
       value = entry-next c.args.b.now c.args.row c.args.col c.loop-k.k-index c.members_at-k-items.result.now
           c.index-as_slice-k.result c.loop-k.total _ c.members_at-k-items.ensures.numbers inside listed c.loop-k.invariant.value c.in_ok-total.ensures.value;
-      within = λ laws loads r real.
+      within = λ laws s real.
           let member = real.member_within k (rw real.all_members inside) in
           rw (add-one c.loop-k.k-index)
-          (c.in_ok-total.ensures.within r.denominator (r.member k).stiffness ((r.member k).shape c.args.row) ((r.member k).shape c.args.col) _ real.positive
-          (rw member_is member.stiffness_within) (rw member_is (member.shape_within c.args.row)) (rw member_is (member.shape_within c.args.col)) (c.loop-k.invariant.within laws loads r real));
+          (c.in_ok-total.ensures.within s.denominator (s.member k).stiffness ((s.member k).shape c.args.row) ((s.member k).shape c.args.col) _ real.positive
+          (rw member_is member.stiffness_within) (rw member_is (member.shape_within c.args.row)) (rw member_is (member.shape_within c.args.col)) (c.loop-k.invariant.within laws s real));
     }
 
 pub returns-clause-value : goal.returns-clause-value
@@ -52,9 +52,9 @@ returns-clause-value c =
     c.members_at-k-items.ensures.numbers (omega arith) c.loop-k.invariant.value)
 
 pub returns-clause-within : goal.returns-clause-within
-returns-clause-within c = λ laws loads r real.
-    let none : (k : ℕ) → k < length c.args.b.now.members → shape_at (member_of c.args.b.now k) c.args.row ≡ nothing → (r.member k).shape c.args.row ≡ pos 0 =
-    λ k inside off. (let w = rw off at ((real.member_within k (rw real.all_members inside)).shape_within c.args.row) in between_zeros ((r.member k).shape c.args.row) r.denominator w.at_least w.at_most) in
-    let sum = c.members_at-k-items.ensures.sums (λ k. (r.member k).shape c.args.row) (λ k. (r.member k).stiffness *ℤ (r.member k).shape c.args.col) none in
+returns-clause-within c = λ laws s real.
+    let none : (k : ℕ) → k < length c.args.b.now.members → shape_at (member_of c.args.b.now k) c.args.row ≡ nothing → (s.member k).shape c.args.row ≡ pos 0 =
+    λ k inside off. (let w = rw off at ((real.member_within k (rw real.all_members inside)).shape_within c.args.row) in between_zeros ((s.member k).shape c.args.row) s.denominator w.at_least w.at_most) in
+    let sum = c.members_at-k-items.ensures.sums (λ k. (s.member k).shape c.args.row) (λ k. (s.member k).stiffness *ℤ (s.member k).shape c.args.col) none in
     let counted : c.loop-k.k-index ≡ length c.members_at-k-items.result.now = omega arith in
-    rw (real.all_members, ← sum, ← counted) (c.loop-k.invariant.within laws loads r real)
+    rw (real.all_members, ← sum, ← counted) (c.loop-k.invariant.within laws s real)

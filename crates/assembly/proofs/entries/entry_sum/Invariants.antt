@@ -4,8 +4,8 @@ use Rattle.flex_interval.specs.Ends.{Ends}
 use Rattle.flex_interval.specs.Fraction.{Within}
 use Rattle.flex_interval.specs.Operations.{add_of}
 use Rattle.member_set.specs.declared.members.Law.{Law}
-use Rattle.member_set.specs.Members.{nothing, members_at, system}
-use Rattle.member_set.specs.Realisation.{Realisation, IsRealisation, fraction, entry_unit}
+use Rattle.member_set.specs.Members.{nothing, members_at}
+use Rattle.member_set.specs.Realisation.{Stiffness, IsStiffnessOf, fraction, entry_unit}
 use Rattle.member_set.specs.Interval.{in_turn}
 use Rattle.assembly.specs.Stiffness.{entry_term}
 use Rattle.assembly.proofs.entries.entry_sum.Given as goal
@@ -16,7 +16,7 @@ invariant-loop-k l =
       items : l.k-items ≡ members_at l.b (l.row / 6);
       inside : (t : ℕ) → t < length l.k-items → slice_index l.k-items t < length l.b.members;
       value : in_turn add_of nothing (entry_term l.b l.row l.col) l.k-index ≡ Ok l.total;
-      within : (laws : List Law) (loads : List Ends) (r : Realisation) → IsRealisation (system l.b laws loads) r →
-          Within l.total (fraction (sum_below l.k-index (λ t. (r.member (slice_index l.k-items t)).shape l.row *ℤ
-          ((r.member (slice_index l.k-items t)).stiffness *ℤ (r.member (slice_index l.k-items t)).shape l.col))) (entry_unit r.denominator));
+      within : (laws : List Law) (s : Stiffness) → IsStiffnessOf l.b laws s →
+          Within l.total (fraction (sum_below l.k-index (λ t. (s.member (slice_index l.k-items t)).shape l.row *ℤ
+          ((s.member (slice_index l.k-items t)).stiffness *ℤ (s.member (slice_index l.k-items t)).shape l.col))) (entry_unit s.denominator));
     }

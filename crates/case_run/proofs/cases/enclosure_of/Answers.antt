@@ -72,7 +72,7 @@ returns-clause-encloses c =
     λ b loads r exact structure loaded real balance.
     let own = same_realisations c.args.m.now c.args.case.0 c.args.shared.now.b b c.in_ok-loads.loads.items loads r
     c.requires.ready.structure structure c.in_ok-loads.ensures.loads loaded real in
-    encloses r exact own (c.requires.ready.definite _ r own) balance
+    encloses r exact own (c.requires.ready.definite r.stiffness own.stiffness) balance
 
 pub returns-in_err-enclose-clause-cause : goal.returns-in_err-enclose-clause-cause
 returns-in_err-enclose-clause-cause c =

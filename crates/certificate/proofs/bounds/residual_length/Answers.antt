@@ -9,7 +9,7 @@ use Rattle.flex_interval.specs.Ends.{Ends}
 use Rattle.flex_interval.specs.Fraction.{Within}
 use Rattle.member_set.specs.Members.{row_count, system}
 use Rattle.member_set.specs.Realisation.{displaced, exact_residual}
-use Rattle.member_set.specs.Interval.{Outcome, residual_of}
+use Rattle.member_set.specs.Interval.{Outcome, forces_of, residual_of}
 use Rattle.certificate.specs.Bounds.{residual_at, no_residual, long}
 use Rattle.certificate.proofs.BoundsLemmas.{found_is, found_ok, square_of, sum_more, sum_too_long}
 use Rattle.certificate.proofs.bounds.residual_length.Goals as goal
@@ -23,7 +23,7 @@ returns-in_err-member_forces-clause-wide c =
 pub returns-in_err-residual_from-clause-wide : goal.returns-in_err-residual_from-clause-wide
 returns-in_err-residual_from-clause-wide c =
     let p = err_from_is_err_and c.from_residual-in_err-residual_from.result c.from_residual-in_err-residual_from.ensures.1 in
-    let at = c.in_err-residual_from.ensures.at_displacements c.args.laws.now c.args.u.now c.in_ok-member_forces.ensures.forces in
+    let at = c.in_err-residual_from.ensures.value (forces_of c.args.b.now c.args.laws.now c.args.u.now) c.in_ok-member_forces.ensures.forces in
     let inside : c.loop-row.row < row_count c.args.b.now = omega (arith, c.requires.system.one_load_each) in
     rw p.1 (λ lambda. no_residual c.loop-row.row inside (subst (λ (o : Outcome). IsErr o) at refl))
 
@@ -31,7 +31,7 @@ pub returns-in_err-sum-clause-wide : goal.returns-in_err-sum-clause-wide
 returns-in_err-sum-clause-wide c =
     let p = err_from_is_err_and c.from_residual-in_err-sum.result c.from_residual-in_err-sum.ensures.1 in
     let e = c.in_ok-residual_from.field-0 in
-    let at = c.in_ok-residual_from.ensures.at_displacements c.args.laws.now c.args.u.now c.in_ok-member_forces.ensures.forces in
+    let at = c.in_ok-residual_from.ensures.value (forces_of c.args.b.now c.args.laws.now c.args.u.now) c.in_ok-member_forces.ensures.forces in
     let inside : c.loop-row.row < row_count c.args.b.now = omega (arith, c.requires.system.one_load_each) in
     let here = found_is (residual_of (system c.args.b.now c.args.laws.now c.args.loads.now) c.args.u.now c.loop-row.row) e (sym at) in
     let beyond = sum_too_long c.loop-row.row (row_count c.args.b.now) c.loop-row.sum (residual_at (system c.args.b.now c.args.laws.now c.args.loads.now) c.args.u.now) e
@@ -43,7 +43,7 @@ loop-row-preserved c =
     let k = c.loop-row.row in
     let e = c.in_ok-residual_from.field-0 in
     let residual = residual_of (system c.args.b.now c.args.laws.now c.args.loads.now) c.args.u.now in
-    let at = c.in_ok-residual_from.ensures.at_displacements c.args.laws.now c.args.u.now c.in_ok-member_forces.ensures.forces in
+    let at = c.in_ok-residual_from.ensures.value (forces_of c.args.b.now c.args.laws.now c.args.u.now) c.in_ok-member_forces.ensures.forces in
     let here = found_is (residual_of (system c.args.b.now c.args.laws.now c.args.loads.now) c.args.u.now k) e (sym at) in
     record {
       short = c.in_ok-sum.ensures.short;
@@ -55,12 +55,12 @@ loop-row-preserved c =
             | inr same ↦ subst (λ (i : ℕ). IsOk (residual i)) (sym same) (found_ok (residual k) e (sym at))
           ];
       within = λ r real j below.
-          let holds = λ (i : ℕ) (x : Ends). Within x (exact_residual r (displaced r.denominator c.args.u.now) i) in
+          let holds = λ (i : ℕ) (x : Ends). Within x (exact_residual r (displaced r.stiffness.denominator c.args.u.now) i) in
           let side : (j < k) ⊎ (j ≡ k) = search arith in
           elim side [
             | inl less ↦ c.loop-row.invariant.within r real j less
             | inr same ↦
-                let own : holds k e = c.in_ok-residual_from.ensures.within c.args.laws.now r (displaced r.denominator c.args.u.now) real (c.in_ok-member_forces.ensures.within c.args.loads.now r real) in
+                let own : holds k e = c.in_ok-residual_from.ensures.within c.args.laws.now r (displaced r.stiffness.denominator c.args.u.now) real (c.in_ok-member_forces.ensures.within c.args.loads.now r real) in
                 subst (λ (i : ℕ). holds i (residual_at (system c.args.b.now c.args.laws.now c.args.loads.now) c.args.u.now i)) (sym same) (subst (holds k) (sym here) own)
           ];
     }
@@ -73,7 +73,7 @@ returns-clause-is_length c = λ r real.
     let size = c.root_of_squares.result in
     let fits : FitsSigned w128 c.root_of_squares.result = search rules in
     let residual = residual_at (system c.args.b.now c.args.laws.now c.args.loads.now) c.args.u.now in
-    let done : c.loop-row.row ≡ r.rows = omega (arith, c.requires.system.one_load_each, real.all_rows) in
+    let done : c.loop-row.row ≡ r.stiffness.rows = omega (arith, c.requires.system.one_load_each, real.stiffness.all_rows) in
     let sum = subst (λ (n : ℕ). pos c.loop-row.sum ≡ sum_below n (λ row. square_of (residual row))) done c.loop-row.invariant.sum in
     let enough = subst (λ (z : ℤ). z ≤ℤ (size *ℤ size)) sum c.root_of_squares.ensures.enough in
     rw (to_z-of_z fits)

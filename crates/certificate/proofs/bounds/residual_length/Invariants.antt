@@ -16,5 +16,5 @@ invariant-loop-row l =
       sum : pos l.sum ≡ sum_below l.row (λ row. greater_size (residual_at (system l.b l.laws l.loads) l.u row) *ℤ greater_size (residual_at (system l.b l.laws l.loads) l.u row));
       residuals : (row : ℕ) → row < l.row → IsOk (residual_of (system l.b l.laws l.loads) l.u row);
       within : (r : Realisation) → IsRealisation (system l.b l.laws l.loads) r → (row : ℕ) → row < l.row →
-          Within (residual_at (system l.b l.laws l.loads) l.u row) (exact_residual r (displaced r.denominator l.u) row);
+          Within (residual_at (system l.b l.laws l.loads) l.u row) (exact_residual r (displaced r.stiffness.denominator l.u) row);
     }

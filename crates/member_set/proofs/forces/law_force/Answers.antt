@@ -9,7 +9,7 @@ returns-clause-within c =
     let past : (a b : Fraction) → Within c.args.x a → Within (start_of c.args.law.now) b → Within c.in_ok-sub.field-0 (minus a b) =
     rw (← c.start.ensures) c.in_ok-sub.ensures.within in
     IfOk-weaker c.mul.result _ _
-    (λ e product q reach exact positive member x_within.
-    force_within q reach exact.stiffness c.args.law.now exact.law c.args.m.now.kappa c.args.x c.in_ok-sub.field-0 e positive
-    member.stiffness_within member.law_within x_within past product)
+    (λ e product q reach offset exact positive member offset_within x_within.
+    force_within q reach exact.stiffness offset c.args.law.now exact.law c.args.m.now.kappa c.args.x c.in_ok-sub.field-0 e positive
+    member.stiffness_within member.law_within offset_within x_within past product)
     c.mul.ensures.within

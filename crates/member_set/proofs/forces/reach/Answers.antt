@@ -6,7 +6,7 @@ use Rattle.flex_interval.specs.Fraction.{whole}
 use Rattle.flex_interval.specs.Operations.{add_of}
 use Rattle.member_set.specs.Members.{shape_at, nothing}
 use Rattle.member_set.specs.Realisation.{displaced}
-use Rattle.member_set.specs.Interval.{place_count, touched_row, reach_term, reach_of}
+use Rattle.member_set.specs.Interval.{place_count, touched_row, reach_term, reach_of, points}
 use Rattle.member_set.proofs.Rows.{place_count-le, shape_at-touched_row, reach_by_places, nothing_is_zero}
 use Rattle.member_set.proofs.Turns.{in_turn-step, in_turn-term_fault, in_turn-step_fault}
 use Rattle.member_set.proofs.forces.reach.Goals as goal
@@ -25,20 +25,20 @@ pub returns-in_err-reach_term-clause-value : goal.returns-in_err-reach_term-clau
 unfolding reach_of
 returns-in_err-reach_term-clause-value c =
     let p = err_from_is_err_and c.from_residual.result c.from_residual.ensures.1 in
-    rw (p.1, p.2) (sym (in_turn-term_fault add_of nothing (reach_term c.args.m.now c.args.u.now) c.loop-place.place (place_count c.args.m.now) c.loop-place.total _
+    rw (p.1, p.2) (sym (in_turn-term_fault add_of nothing (reach_term c.args.m.now (points c.args.u.now)) c.loop-place.place (place_count c.args.m.now) c.loop-place.total _
     (rw (← c.place_count-place-end.ensures) c.loop-place-test.true) c.loop-place.invariant.value (sym c.in_err-reach_term.ensures.value)))
 
 pub returns-in_err-total-clause-value : goal.returns-in_err-total-clause-value
 unfolding reach_of
 returns-in_err-total-clause-value c =
     let p = err_from_is_err_and c.from_residual-in_err-total.result c.from_residual-in_err-total.ensures.1 in
-    rw (p.1, p.2) (sym (in_turn-step_fault add_of nothing (reach_term c.args.m.now c.args.u.now) c.loop-place.place (place_count c.args.m.now) c.loop-place.total c.in_ok-reach_term.field-0 _
+    rw (p.1, p.2) (sym (in_turn-step_fault add_of nothing (reach_term c.args.m.now (points c.args.u.now)) c.loop-place.place (place_count c.args.m.now) c.loop-place.total c.in_ok-reach_term.field-0 _
     (rw (← c.place_count-place-end.ensures) c.loop-place-test.true) c.loop-place.invariant.value (sym c.in_ok-reach_term.ensures.value) (sym c.in_err-total.ensures.value)))
 
 pub loop-place-preserved : goal.loop-place-preserved
 loop-place-preserved c =
     record {
-      value = in_turn-step add_of nothing (reach_term c.args.m.now c.args.u.now) c.loop-place.place c.loop-place.total c.in_ok-reach_term.field-0
+      value = in_turn-step add_of nothing (reach_term c.args.m.now (points c.args.u.now)) c.loop-place.place c.loop-place.total c.in_ok-reach_term.field-0
           c.loop-place.invariant.value (sym c.in_ok-reach_term.ensures.value) ∙ sym c.in_ok-total.ensures.value;
       within = λ q x positive shape.
           let inside : c.loop-place.place < place_count c.args.m.now = rw (← c.place_count-place-end.ensures) c.loop-place-test.true in

@@ -3,7 +3,7 @@ use Rattle.std.proofs.lemmas.Result.{IfOk-weaker}
 use Rattle.std.proofs.lemmas.Grind.{common_steps}
 use Rattle.std.specs.Int.{w128}
 use Rattle.flex_interval.specs.Fraction.{Within, whole}
-use Rattle.member_set.proofs.Fractions.{product_within}
+use Rattle.member_set.proofs.Fractions.{product_within, whole_within}
 use Rattle.member_set.specs.Members.{nothing}
 use Rattle.member_set.specs.Realisation.{fraction}
 use Rattle.member_set.specs.Interval.{touched_row}
@@ -17,5 +17,6 @@ returns-clause-within c =
     rw (← c.touched_row.ensures) (rw (to_z-of_z fits) at c.point.ensures.within) in
     IfOk-weaker c.mul.result _ _
     (λ e enclosed q shape positive within.
-    product_within e shape _ q positive (enclosed (fraction shape q) (whole _) (rw (← c.index-m-place.is, shape_is) within) point_within))
+    product_within e shape _ q positive (enclosed (fraction shape q) (fraction _ q) (rw (← c.index-m-place.is, shape_is) within)
+    (whole_within c.point.result _ q positive point_within)))
     c.mul.ensures.within

@@ -9,5 +9,5 @@ returns-clause-value c = rw (c.limited.ensures.value, ← c.in_ok-reach.ensures.
 pub returns-clause-within : goal.returns-clause-within
 returns-clause-within c =
     IfOk-weaker c.limited.result _ _
-    (λ e same q x positive member. rw same (c.in_ok-law_force.ensures.within q _ x positive member (c.in_ok-reach.ensures.within q x positive member.shape_within)))
+    (λ e same q offset x positive member offset_within. rw same (c.in_ok-law_force.ensures.within q _ offset x positive member offset_within (c.in_ok-reach.ensures.within q x positive member.shape_within)))
     c.limited.ensures.same

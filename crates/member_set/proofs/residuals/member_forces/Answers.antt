@@ -5,7 +5,7 @@ use Rattle.std.proofs.lemmas.Result.{err_from_is_err_and}
 use Rattle.std.proofs.lemmas.List.{get_or_read_under}
 use Rattle.flex_interval.specs.Ends.{Ends}
 use Rattle.member_set.specs.Members.{nothing, no_member, no_law, force_of}
-use Rattle.member_set.specs.Realisation.{IsMemberWithin, displaced, force_in, force_fraction}
+use Rattle.member_set.specs.Realisation.{IsMemberWithin, IsOffsetWithin, displaced, force_in, force_fraction}
 use Rattle.member_set.specs.Interval.{forces_of}
 use Rattle.member_set.proofs.Touching.{ok_of, residual-without_force}
 use Rattle.member_set.proofs.residuals.member_forces.Goals as goal
@@ -39,19 +39,21 @@ loop-k-preserved c =
             | inr same ↦ subst (λ (i : ℕ). forces_of c.args.b.now c.args.laws.now c.args.u.now i ≡ ok_of (force_of new i)) (sym same) (force ∙ ap ok_of (sym here))
           ];
       within = λ loads r real j below.
-          let at = λ (i : ℕ) (e : Ends). Within e (force_fraction r.denominator (force_in r (displaced r.denominator c.args.u.now) i)) in
-          let rows : r.rows ≡ length c.args.u.now = real.all_rows ∙ sym c.requires.one_displacement_each in
-          let member : IsMemberWithin r.denominator c.index-as_slice-k.result c.index-laws-k.result (r.member k) =
-          rw (member_is, law_is) (real.member_within k (rw real.all_members inside)) in
+          let at = λ (i : ℕ) (e : Ends). Within e (force_fraction r.stiffness.denominator (force_in r (displaced r.stiffness.denominator c.args.u.now) i)) in
+          let rows : r.stiffness.rows ≡ length c.args.u.now = real.stiffness.all_rows ∙ sym c.requires.one_displacement_each in
+          let member : IsMemberWithin r.stiffness.denominator c.index-as_slice-k.result c.index-laws-k.result (r.stiffness.member k) =
+          rw (member_is, law_is) (real.stiffness.member_within k (rw real.stiffness.all_members inside)) in
+          let offset : IsOffsetWithin r.stiffness.denominator c.index-laws-k.result (r.numbers.offset k) =
+          rw law_is (real.numbers.offset_within k (rw real.stiffness.all_members inside)) in
           let side : (j < k) ⊎ (j ≡ k) = search arith in
           elim side [
             | inl less ↦ subst (at j) (sym (get_or-set_other c.loop-k.forces k j c.in_ok-forces.field-0 nothing (omega arith))) (c.loop-k.invariant.within loads r real j less)
             | inr same ↦
-                let own : at k c.in_ok-forces.field-0 = rw rows (c.in_ok-forces.ensures.within r.denominator (r.member k) real.positive member) in
+                let own : at k c.in_ok-forces.field-0 = rw rows (c.in_ok-forces.ensures.within r.stiffness.denominator (r.numbers.offset k) (r.stiffness.member k) real.stiffness.positive member offset) in
                 subst (λ (i : ℕ). at i (force_of new i)) (sym same) (subst (at k) (sym here) own)
           ];
     }
 
 pub returns-clause-within : goal.returns-clause-within
 returns-clause-within c = λ loads r real k below.
-    c.loop-k.invariant.within loads r real k (omega (arith, real.all_members, c.requires.one_law_each))
+    c.loop-k.invariant.within loads r real k (omega (arith, real.stiffness.all_members, c.requires.one_law_each))

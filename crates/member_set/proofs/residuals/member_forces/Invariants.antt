@@ -12,5 +12,5 @@ invariant-loop-k l =
       one_each : length l.forces ≡ length l.b.members;
       value : (k : ℕ) → k < l.k → forces_of l.b l.laws l.u k ≡ Ok (force_of l.forces k);
       within : (loads : List Ends) (r : Realisation) → IsRealisation (system l.b l.laws loads) r → (k : ℕ) → k < l.k →
-          Within (force_of l.forces k) (force_fraction r.denominator (force_in r (displaced r.denominator l.u) k));
+          Within (force_of l.forces k) (force_fraction r.stiffness.denominator (force_in r (displaced r.stiffness.denominator l.u) k));
     }

@@ -19,9 +19,9 @@ loop-k-init c =
       inside = c.members_at-k-items.ensures.in_range;
       value = ap ok_of load_is;
       within = λ laws r u real hold.
-          let here : Within c.index-loads-row.result (fraction (r.load c.args.row) r.denominator) = rw (← load_is) (real.load_within c.args.row (rw real.all_rows c.requires.row_in_range)) in
+          let here : Within c.index-loads-row.result (fraction (r.numbers.load c.args.row) r.stiffness.denominator) = rw (← load_is) (real.numbers.load_within c.args.row (rw real.stiffness.all_rows c.requires.row_in_range)) in
           let none : exact_load r c.args.row ≡ exact_load r c.args.row -ℤ pos 0 = omega (arith, int_sums) in
-          subst (λ (z : ℤ). Within c.index-loads-row.result (pull_fraction r.denominator z)) none (load_within c.index-loads-row.result r.denominator (r.load c.args.row) real.positive here);
+          subst (λ (z : ℤ). Within c.index-loads-row.result (pull_fraction r.stiffness.denominator z)) none (load_within c.index-loads-row.result r.stiffness.denominator (r.numbers.load c.args.row) real.stiffness.positive here);
     }
 
 pub returns-in_err-rest-clause-value : goal.returns-in_err-rest-clause-value
@@ -31,12 +31,13 @@ returns-in_err-rest-clause-value c =
     let inside = c.members_at-k-items.ensures.in_range c.loop-k.k-index c.loop-k-test.true in
     let force_is : c.index-forces-k.result ≡ force_of c.args.forces.now k =
     get_or_read_under c.args.forces.now k _ c.index-forces-k.result nothing c.index-forces-k.is (omega (arith, inside)) (sym c.requires.one_force_each) in
-    rw (p.1, p.2)
+    λ force have. rw (p.1, p.2)
     (sym (residual-fault c.args.b.now c.args.loads.now (λ k. Ok (force_of c.args.forces.now k)) c.args.row c.loop-k.k-index c.members_at-k-items.result.now _
     c.members_at-k-items.ensures.numbers c.loop-k-test.true
     (residual-next c.args.b.now (load_of c.args.loads.now c.args.row) (λ k. Ok (force_of c.args.forces.now k)) c.args.row c.loop-k.k-index c.members_at-k-items.result.now
     c.index-as_slice-k.result (Ok c.index-forces-k.result) c.loop-k.rest _ c.members_at-k-items.ensures.numbers inside (rw (← c.as_slice.ensures) c.index-as_slice-k.is)
     (ap ok_of force_is) c.loop-k.invariant.value c.in_err-rest.ensures.value)))
+    ∙ residual_from-forces c.args.b.now c.requires.built c.args.loads.now force c.args.forces.now c.args.row c.requires.row_in_range have
 
 pub loop-k-preserved : goal.loop-k-preserved
 loop-k-preserved c =
@@ -54,31 +55,24 @@ loop-k-preserved c =
       within = λ laws r u real hold.
           let listed : c.index-as_slice-k.result ≡ get_or c.args.b.now.members k c.index-as_slice-k.result = rw (← c.as_slice.ensures) c.index-as_slice-k.is in
           let member_is = get_or_read_under c.args.b.now.members k _ c.index-as_slice-k.result no_member listed inside refl in
-          let k_inside : k < r.members = rw real.all_members inside in
-          let shape : Within (shape_at c.index-as_slice-k.result c.args.row) (fraction ((r.member k).shape c.args.row) r.denominator) =
-          rw member_is ((real.member_within k k_inside).shape_within c.args.row) in
-          let force : Within c.index-forces-k.result (force_fraction r.denominator (force_in r u k)) = rw force_is (hold k k_inside) in
-          let step = c.in_ok-rest.ensures.within r.denominator _ _ _ real.positive shape force (c.loop-k.invariant.within laws r u real hold) in
-          rw (add-one c.loop-k.k-index) (pull_taken c.in_ok-rest.rest r.denominator (exact_load r c.args.row) _ _ _ refl step);
+          let k_inside : k < r.stiffness.members = rw real.stiffness.all_members inside in
+          let shape : Within (shape_at c.index-as_slice-k.result c.args.row) (fraction ((r.stiffness.member k).shape c.args.row) r.stiffness.denominator) =
+          rw member_is ((real.stiffness.member_within k k_inside).shape_within c.args.row) in
+          let force : Within c.index-forces-k.result (force_fraction r.stiffness.denominator (force_in r u k)) = rw force_is (hold k k_inside) in
+          let step = c.in_ok-rest.ensures.within r.stiffness.denominator _ _ _ real.stiffness.positive shape force (c.loop-k.invariant.within laws r u real hold) in
+          rw (add-one c.loop-k.k-index) (pull_taken c.in_ok-rest.rest r.stiffness.denominator (exact_load r c.args.row) _ _ _ refl step);
     }
 
 pub returns-clause-value : goal.returns-clause-value
-returns-clause-value c =
+returns-clause-value c = λ force have.
     sym (residual-whole c.args.b.now c.args.loads.now (λ k. Ok (force_of c.args.forces.now k)) c.args.row c.loop-k.k-index c.members_at-k-items.result.now c.loop-k.rest
     c.members_at-k-items.ensures.numbers (omega arith) c.loop-k.invariant.value)
-
-pub returns-in_err-rest-clause-at_displacements : goal.returns-in_err-rest-clause-at_displacements
-returns-in_err-rest-clause-at_displacements c = λ laws u are.
-    returns-in_err-rest-clause-value c ∙ residual_from-forces c.args.b.now c.requires.built laws c.args.loads.now u c.args.forces.now c.args.row c.requires.row_in_range are
-
-pub returns-clause-at_displacements : goal.returns-clause-at_displacements
-returns-clause-at_displacements c = λ laws u are.
-    returns-clause-value c ∙ residual_from-forces c.args.b.now c.requires.built laws c.args.loads.now u c.args.forces.now c.args.row c.requires.row_in_range are
+    ∙ residual_from-forces c.args.b.now c.requires.built c.args.loads.now force c.args.forces.now c.args.row c.requires.row_in_range have
 
 pub returns-clause-within : goal.returns-clause-within
 returns-clause-within c = λ laws r u real hold.
     let done : c.loop-k.k-index ≡ length (members_at c.args.b.now (c.args.row / 6)) = omega (arith, ap (λ (xs : List ℕ). length xs) c.members_at-k-items.ensures.numbers) in
-    let none : (k : ℕ) → k < length c.args.b.now.members → shape_at (member_of c.args.b.now k) c.args.row ≡ nothing → (r.member k).shape c.args.row ≡ pos 0 =
-    λ k inside off. nothing_is_zero _ r.denominator (rw off at ((real.member_within k (rw real.all_members inside)).shape_within c.args.row)) in
-    let sum = resistance_by_node c.args.b.now c.requires.built c.args.row (λ k. (r.member k).shape c.args.row) (force_in r u) (omega arith) none in
-    rw (real.all_members, ← sum, ← done, ← c.members_at-k-items.ensures.numbers) (c.loop-k.invariant.within laws r u real hold)
+    let none : (k : ℕ) → k < length c.args.b.now.members → shape_at (member_of c.args.b.now k) c.args.row ≡ nothing → (r.stiffness.member k).shape c.args.row ≡ pos 0 =
+    λ k inside off. nothing_is_zero _ r.stiffness.denominator (rw off at ((real.stiffness.member_within k (rw real.stiffness.all_members inside)).shape_within c.args.row)) in
+    let sum = resistance_by_node c.args.b.now c.requires.built c.args.row (λ k. (r.stiffness.member k).shape c.args.row) (force_in r u) (omega arith) none in
+    rw (real.stiffness.all_members, ← sum, ← done, ← c.members_at-k-items.ensures.numbers) (c.loop-k.invariant.within laws r u real hold)

@@ -16,6 +16,6 @@ invariant-loop-k l =
       inside : (t : ℕ) → t < length l.k-items → slice_index l.k-items t < length l.b.members;
       value : in_turn sub_of (load_of l.loads l.row) (residual_term l.b (λ k. Ok (force_of l.forces k)) l.row) l.k-index ≡ Ok l.rest;
       within : (laws : List Law) (r : Realisation) (u : Vector) → IsRealisation (system l.b laws l.loads) r → HoldForces r u l.forces →
-          Within l.rest (pull_fraction r.denominator (exact_load r l.row -ℤ sum_below l.k-index (λ t.
-          (r.member (slice_index l.k-items t)).shape l.row *ℤ force_in r u (slice_index l.k-items t))));
+          Within l.rest (pull_fraction r.stiffness.denominator (exact_load r l.row -ℤ sum_below l.k-index (λ t.
+          (r.stiffness.member (slice_index l.k-items t)).shape l.row *ℤ force_in r u (slice_index l.k-items t))));
     }

@@ -7,7 +7,7 @@ use Rattle.member_set.specs.declared.members.Law.{Law}
 use Rattle.member_set.specs.declared.members.Built.{Built}
 use Rattle.flex_interval.specs.Fraction.{Within}
 use Rattle.member_set.specs.Members.{nothing, no_member, no_law, IsBuilt, member_of, members_at, law_of, load_of, row_count, shape_at}
-use Rattle.member_set.specs.Realisation.{IsMemberWithin, displaced, force_in, exact_load, pull_fraction, fraction}
+use Rattle.member_set.specs.Realisation.{IsMemberWithin, IsOffsetWithin, displaced, force_in, exact_load, pull_fraction, fraction}
 use Rattle.member_set.specs.Interval.{forces_of, member_force_of}
 use Rattle.member_set.proofs.Fractions.{load_within, pull_taken}
 use Rattle.member_set.proofs.Rows.{nothing_is_zero}
@@ -42,9 +42,9 @@ loop-k-init c =
       inside = c.members_at-k-items.ensures.in_range;
       value = ap ok_of load_is;
       within = λ r real.
-          let here : Within c.index-loads-row.result (fraction (r.load c.args.row) r.denominator) = rw (← load_is) (real.load_within c.args.row (rw real.all_rows c.requires.row_in_range)) in
+          let here : Within c.index-loads-row.result (fraction (r.numbers.load c.args.row) r.stiffness.denominator) = rw (← load_is) (real.numbers.load_within c.args.row (rw real.stiffness.all_rows c.requires.row_in_range)) in
           let none : exact_load r c.args.row ≡ exact_load r c.args.row -ℤ pos 0 = omega (arith, int_sums) in
-          subst (λ (z : ℤ). Within c.index-loads-row.result (pull_fraction r.denominator z)) none (load_within c.index-loads-row.result r.denominator (r.load c.args.row) real.positive here);
+          subst (λ (z : ℤ). Within c.index-loads-row.result (pull_fraction r.stiffness.denominator z)) none (load_within c.index-loads-row.result r.stiffness.denominator (r.numbers.load c.args.row) real.stiffness.positive here);
     }
 
 -- the value of the member's part, by its number
@@ -81,11 +81,13 @@ loop-k-preserved c =
           c.index-as_slice-k.result (member_force_of c.index-as_slice-k.result c.index-laws-k.result c.args.u.now) c.loop-k.rest _ c.members_at-k-items.ensures.numbers inside listed
           (force_is c.args.b.now c.args.laws.now c.args.u.now k c.index-as_slice-k.result c.index-laws-k.result member_is law_is) c.loop-k.invariant.value c.in_ok-rest.ensures.value;
       within = λ r real.
-          let rows : r.rows ≡ length c.args.u.now = real.all_rows ∙ sym c.requires.one_displacement_each in
-          let member : IsMemberWithin r.denominator c.index-as_slice-k.result c.index-laws-k.result (r.member k) =
-          rw (member_is, law_is) (real.member_within k (rw real.all_members inside)) in
-          let step = rw (← rows) at (c.in_ok-rest.ensures.within r.denominator (r.member k) _ real.positive member (c.loop-k.invariant.within r real)) in
-          rw (add-one c.loop-k.k-index) (pull_taken c.in_ok-rest.rest r.denominator (exact_load r c.args.row) _ _ _ refl step);
+          let rows : r.stiffness.rows ≡ length c.args.u.now = real.stiffness.all_rows ∙ sym c.requires.one_displacement_each in
+          let member : IsMemberWithin r.stiffness.denominator c.index-as_slice-k.result c.index-laws-k.result (r.stiffness.member k) =
+          rw (member_is, law_is) (real.stiffness.member_within k (rw real.stiffness.all_members inside)) in
+          let offset : IsOffsetWithin r.stiffness.denominator c.index-laws-k.result (r.numbers.offset k) =
+          rw law_is (real.numbers.offset_within k (rw real.stiffness.all_members inside)) in
+          let step = rw (← rows) at (c.in_ok-rest.ensures.within r.stiffness.denominator (r.numbers.offset k) (r.stiffness.member k) _ real.stiffness.positive member offset (c.loop-k.invariant.within r real)) in
+          rw (add-one c.loop-k.k-index) (pull_taken c.in_ok-rest.rest r.stiffness.denominator (exact_load r c.args.row) _ _ _ refl step);
     }
 
 pub returns-clause-value : goal.returns-clause-value
@@ -95,9 +97,9 @@ returns-clause-value c =
 
 pub returns-clause-within : goal.returns-clause-within
 returns-clause-within c = λ r real.
-    let u = displaced r.denominator c.args.u.now in
+    let u = displaced r.stiffness.denominator c.args.u.now in
     let done : c.loop-k.k-index ≡ length (members_at c.args.b.now (c.args.row / 6)) = omega (arith, ap (λ (xs : List ℕ). length xs) c.members_at-k-items.ensures.numbers) in
-    let none : (k : ℕ) → k < length c.args.b.now.members → shape_at (member_of c.args.b.now k) c.args.row ≡ nothing → (r.member k).shape c.args.row ≡ pos 0 =
-    λ k inside off. nothing_is_zero _ r.denominator (rw off at ((real.member_within k (rw real.all_members inside)).shape_within c.args.row)) in
-    let sum = resistance_by_node c.args.b.now c.requires.system.built c.args.row (λ k. (r.member k).shape c.args.row) (force_in r u) (omega arith) none in
-    rw (real.all_members, ← sum, ← done, ← c.members_at-k-items.ensures.numbers) (c.loop-k.invariant.within r real)
+    let none : (k : ℕ) → k < length c.args.b.now.members → shape_at (member_of c.args.b.now k) c.args.row ≡ nothing → (r.stiffness.member k).shape c.args.row ≡ pos 0 =
+    λ k inside off. nothing_is_zero _ r.stiffness.denominator (rw off at ((real.stiffness.member_within k (rw real.stiffness.all_members inside)).shape_within c.args.row)) in
+    let sum = resistance_by_node c.args.b.now c.requires.system.built c.args.row (λ k. (r.stiffness.member k).shape c.args.row) (force_in r u) (omega arith) none in
+    rw (real.stiffness.all_members, ← sum, ← done, ← c.members_at-k-items.ensures.numbers) (c.loop-k.invariant.within r real)

@@ -14,6 +14,6 @@ invariant-loop-k l =
       inside : (t : ℕ) → t < length l.k-items → slice_index l.k-items t < length l.b.members;
       value : in_turn sub_of (load_of l.loads l.row) (residual_term l.b (forces_of l.b l.laws l.u) l.row) l.k-index ≡ Ok l.rest;
       within : (r : Realisation) → IsRealisation (system l.b l.laws l.loads) r →
-          Within l.rest (pull_fraction r.denominator (exact_load r l.row -ℤ sum_below l.k-index (λ t.
-          (r.member (slice_index l.k-items t)).shape l.row *ℤ force_in r (displaced r.denominator l.u) (slice_index l.k-items t))));
+          Within l.rest (pull_fraction r.stiffness.denominator (exact_load r l.row -ℤ sum_below l.k-index (λ t.
+          (r.stiffness.member (slice_index l.k-items t)).shape l.row *ℤ force_in r (displaced r.stiffness.denominator l.u) (slice_index l.k-items t))));
     }

@@ -1,7 +1,7 @@
 use Rattle.std.specs.Prelude.{IsErr, slice_set}
 use Rattle.std.proofs.Common.{rules, arith, ◌≡◌, ◌<◌, ◌⊎◌, inl, inr, refl, sym, subst, ◌∙◌, length, get_or-set_same, get_or-set_other, FitsSigned, to_z-of_z, ℤ, pos}
 use Rattle.std.specs.Int.{w128}
-use Rattle.member_set.specs.Interval.{Outcome, residual_of}
+use Rattle.member_set.specs.Interval.{Outcome, forces_of, residual_of}
 use Rattle.solve.specs.Substitution.{at}
 use Rattle.solve.specs.Refinement.{IsMiddle}
 use Rattle.std.proofs.lemmas.Result.{err_from_is_err_and}
@@ -17,7 +17,7 @@ returns-in_err-member_forces c =
 pub returns-in_err-residual_from : goal.returns-in_err-residual_from
 returns-in_err-residual_from c =
     let p = err_from_is_err_and c.from_residual-in_err-residual_from.result c.from_residual-in_err-residual_from.ensures.1 in
-    let at_row = c.in_err-residual_from.ensures.at_displacements c.args.laws.now c.args.u.now c.in_ok-member_forces.ensures.forces in
+    let at_row = c.in_err-residual_from.ensures.value (forces_of c.args.b.now c.args.laws.now c.args.u.now) c.in_ok-member_forces.ensures.forces in
     rw p.1 (record { middles = tt; none = record { row = c.loop-row.row; inside = omega (arith, c.requires.one_middle_each); none = subst (λ (o : Outcome). IsErr o) at_row refl } })
 
 pub loop-row-preserved : goal.loop-row-preserved
@@ -27,7 +27,7 @@ loop-row-preserved c =
     let residual = residual_of (system c.args.b.now c.args.laws.now c.args.loads.now) c.args.u.now in
     let fits : FitsSigned w128 c.middle.result = search rules in
     let inside : row < length r = omega (arith, c.loop-row.auto.r) in
-    let at_row = c.in_ok-residual_from.ensures.at_displacements c.args.laws.now c.args.u.now c.in_ok-member_forces.ensures.forces in
+    let at_row = c.in_ok-residual_from.ensures.value (forces_of c.args.b.now c.args.laws.now c.args.u.now) c.in_ok-member_forces.ensures.forces in
     rw (to_z-of_z fits)
     (λ k below.
     let side : (k < row) ⊎ (k ≡ row) = search arith in
