@@ -5,6 +5,7 @@ use Rattle.std.proofs.lemmas.Int.{ints}
 use Rattle.std.proofs.lemmas.List.{length-append, length-map}
 use Rattle.std.proofs.lemmas.List.Elements.{All-drop, All-from_get_or, All-map, All-same, recursion_from_All}
 use Rattle.std.proofs.lemmas.List.FromFn.{length-map-range_with_len, get_or-map-range_with_len}
+use Rattle.std.proofs.lemmas.List.Sums.{sum_by-cons}
 use Rattle.std.proofs.lemmas.Option.{slice_get-get_or}
 use Rattle.std.specs.List.{AllByRecursion, flat_map, range_with_len}
 use Rattle.std.specs.Ordering.{int_eq}
@@ -36,8 +37,8 @@ use Rattle.structure.specs.Anchors.{IsAnchor, kind_members, restraint_members}
 use Rattle.structure.specs.Elements.{element_at, members_of_element}
 use Rattle.structure.specs.Structure.{Members, element_members, model_members, with_element, then_members}
 use Rattle.structure.specs.Elements.{ElementsHaveEightMembers}
-use Rattle.report.specs.Fits.{AreAnswersOf, AreModest, FitsModel, IsModest, loads_count}
-use Rattle.report.specs.Report.{load_count}
+use Rattle.report.specs.Fits.{AreAnswersOf, AreModest, FitsModel, IsModest}
+use Rattle.report.specs.Report.{load_count, loads_count}
 use Rattle.case_run.specs.Causes.{Plan, resting_laws}
 use Rattle.case_run.specs.Certified.{AreCaseAnswers, IsCaseAnswer, IsCertified, ShiftPasses, TellsBounds, bounds_of, element_member_count, shift_of}
 use Rattle.pipeflex_top.specs.Analysis.{text_order}
@@ -75,9 +76,9 @@ anchor_has node (Twist dx dy dz k) is = absurd is
 anchors_have : (restraints : List Restraint) → AllByRecursion (λ r. IsAnchor r.kind) restraints → length (flat_map restraint_members restraints) ≡ loads_count restraints
 anchors_have [] are = refl
 anchors_have (r ∷ restraints) (here, rest) =
-    omega (arith, length-append (restraint_members r) (flat_map restraint_members restraints), anchor_has r.node.0 r.kind here, anchors_have restraints rest)
+    omega (arith, sum_by-cons (λ (x : Restraint). load_count x.kind) r restraints, length-append (restraint_members r) (flat_map restraint_members restraints), anchor_has r.node.0 r.kind here, anchors_have restraints rest)
 
-model_has : ElementsHaveEightMembers → (m : Lists) (members : List Member) → All (λ r. IsAnchor r.kind) m.restraints → model_members m ≡ Ok members
+pub model_has : ElementsHaveEightMembers → (m : Lists) (members : List Member) → All (λ r. IsAnchor r.kind) m.restraints → model_members m ≡ Ok members
     → length members ≡ 8 * length m.elements + loads_count m.restraints
 unfolding model_members
 model_has eight m members anchors is =

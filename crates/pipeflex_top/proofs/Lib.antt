@@ -1,6 +1,6 @@
 mod Determined
 mod Fits
 mod Outcomes
-mod Printed
 mod RunLemmas
 mod TableLemmas
+mod Told

@@ -8,8 +8,8 @@ use Rattle.model_types.specs.Lists.{Lists}
 use Rattle.model_types.specs.declared.answers.CaseAnswer.{CaseAnswer}
 use Rattle.model_types.specs.declared.answers.CaseAnswer.TheVariants as answer
 use Rattle.report.specs.Report.{report_of}
-use Rattle.pipeflex_top.specs.Bounds.{PrintBounds}
 use Rattle.pipeflex_top.specs.OneStraight.{IsOneStraight}
+use Rattle.pipeflex_top.specs.Told.{IsReportText}
 
 -- two nodes are eliminated in text order: the parent of the first is the second
 abbrev pub text_order : Plan
@@ -26,14 +26,14 @@ EndsWith answers Done = All IsCertifiedAnswer answers
 EndsWith answers Uncertified = ¬ (All IsCertifiedAnswer answers)
 EndsWith answers _ = ⊥
 
--- the output is the report of the answers of the model's cases, the run ends as they say, and every equilibrium is in the
--- printed bounds of each case that is certified
+-- the output is the report of the answers of the model's cases, the run ends as they say, and in each case that the text
+-- calls certified every equilibrium lies between the numbers that stand there
 pub record IsReport (m : Lists) (output : List ℕ) (status : Status) : Type 0 where
   pub answers : List CaseAnswer
   pub reached : AreCaseAnswers m text_order answers
   pub written : output ≡ report_of m answers
   pub ends : EndsWith answers status
-  pub bounds : PrintBounds m answers
+  pub told : IsReportText m output
 
 -- a model that is analysed has at most one report, and a run that writes it one ending
 abbrev pub ReportIsDetermined : Type 0

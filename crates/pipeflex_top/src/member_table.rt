@@ -1,6 +1,7 @@
 //! The member table of a model.
 
-ghost use Rattle.std.specs.Prelude.{◌≡◌, ◌≤◌, ◌++◌, length, OnOk, IfOk};
+ghost use Rattle.std.specs.Prelude.{◌≡◌, ◌≤◌, ◌++◌, length, OnErr, OnOk, IfOk};
+ghost use Rattle.std.specs.Io.{StartsWith};
 ghost use Rattle.std.specs.List.{flat_map};
 ghost use Rattle.model_types.specs.Rules.{Keeps};
 ghost use Rattle.model_types.specs.declared.records.Record.TheVariants as record_of;
@@ -29,9 +30,11 @@ pub fn member_table(alloc: Global, model: &Model) -> Result<Vec<u8>, NoMemory>
     Ok(out)
 }
 
+#[tactic(auto, using(std::proofs::Transfers::starts_with_of_append, std::proofs::Transfers::starts_with_trans))]
 fn push_elements(out: &mut Vec<u8>, model: &Model) -> Result<(), NoMemory>
     ensures bytes { OnOk result (out.new.items ≡ out.old.items ++ flat_map (element_text model.now) model.now.elements) }
     ensures encloses { OnOk result (PrintsEnclosures model.now) }
+    ensures kept { OnErr result (StartsWith out.new.items out.old.items) }
 {
     let elements = model.elements();
     for element in elements {
@@ -40,10 +43,12 @@ fn push_elements(out: &mut Vec<u8>, model: &Model) -> Result<(), NoMemory>
     Ok(())
 }
 
+#[tactic(auto, using(std::proofs::Transfers::starts_with_of_append, std::proofs::Transfers::starts_with_trans))]
 fn push_element(out: &mut Vec<u8>, model: &Model, element: &Element) -> Result<(), NoMemory>
     requires { Keeps model.now (record_of.Element element.now) }
     ensures bytes { OnOk result (out.new.items ≡ out.old.items ++ element_text model.now element.now) }
     ensures encloses { EnclosesElement model.now element.now }
+    ensures kept { OnErr result (StartsWith out.new.items out.old.items) }
 {
     let name = element.name.bytes();
     match element_members(model, element) {
@@ -56,9 +61,11 @@ fn push_element(out: &mut Vec<u8>, model: &Model, element: &Element) -> Result<(
     Ok(())
 }
 
+#[tactic(auto, using(std::proofs::Transfers::starts_with_of_append, std::proofs::Transfers::starts_with_trans))]
 fn push_kappas(out: &mut Vec<u8>, members: &[Member]) -> Result<(), NoMemory>
     requires { length members.now ≤ 8 }
-    ensures { OnOk result (out.new.items ≡ out.old.items ++ flat_map line (kappa_lines 1 members.now)) }
+    ensures bytes { OnOk result (out.new.items ≡ out.old.items ++ flat_map line (kappa_lines 1 members.now)) }
+    ensures kept { OnErr result (StartsWith out.new.items out.old.items) }
 {
     let mut number = 1;
     for member in members {
@@ -69,7 +76,8 @@ fn push_kappas(out: &mut Vec<u8>, members: &[Member]) -> Result<(), NoMemory>
 }
 
 fn push_kappa(out: &mut Vec<u8>, j: u8, kappa: Iv) -> Result<(), NoMemory>
-    ensures { OnOk result (out.new.items ≡ out.old.items ++ line (kappa_words j kappa)) }
+    ensures bytes { OnOk result (out.new.items ≡ out.old.items ++ line (kappa_words j kappa)) }
+    ensures kept { OnErr result (StartsWith out.new.items out.old.items) }
 {
     let (mut number, mut lo, mut hi) = (Buffer::new(), Buffer::new(), Buffer::new());
     let number = number.format(j).as_bytes();

@@ -1,6 +1,8 @@
 -- A text that is written piece by piece, item by item.
 use Rattle.std.proofs.Common.{◌≡◌, ℕ, suc, ◌+◌, ◌<◌, List, [], ◌∷◌, ◌++◌, length, get_or, drop, append_assoc, append-nil, add-one, sym, ap, ◌∙◌}
 use Rattle.std.proofs.Math.Seq.{drop-cons}
+use Rattle.std.proofs.Transfers.{starts_with_of_append, starts_with_trans}
+use Rattle.std.specs.Io.{StartsWith}
 use Rattle.std.specs.List.{join_with_byte}
 use Rattle.text_words.specs.Fields.{line}
 use Rattle.report.specs.Words.{spaced}
@@ -12,6 +14,10 @@ next_item xs i x inside is = rw add-one (drop-cons xs i x inside ∙ ap (λ y. y
 -- a piece is written: what is left of the whole text follows it
 pub written : (whole out new piece before after : List ℕ) → before ≡ piece ++ after → out ++ before ≡ whole → new ≡ out ++ piece → new ++ after ≡ whole
 written whole out new piece before after parts so_far step = rw (step, append_assoc, ← parts) so_far
+
+-- what stood before still does once a piece is written
+pub still_starts : (old out new piece : List ℕ) → new ≡ out ++ piece → StartsWith out old → StartsWith new old
+still_starts old out new piece step kept = starts_with_trans new out old (starts_with_of_append new out piece step) kept
 
 -- words joined by spaces
 joined_is : (first : List ℕ) (words : List (List ℕ)) → join_with_byte 32 (first ∷ words) ≡ first ++ spaced words

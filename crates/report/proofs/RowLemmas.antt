@@ -1,8 +1,11 @@
 -- The lines of nodes, restraints and cases, written one by one.
-use Rattle.std.proofs.Common.{◌≡◌, ℕ, Bool, ◌+◌, ◌<◌, List, [], ◌∷◌, ◌++◌, length, get_or, take, drop, map, min, codes, ℤ, append_assoc, refl, ap, ◌∙◌}
-use Rattle.std.proofs.lemmas.List.{take_min, drop_min}
+use Rattle.std.proofs.Common.{◌≡◌, ℕ, Bool, ◌+◌, ◌*◌, ◌^◌, ◌<◌, ◌≤◌, List, [], ◌∷◌, ◌++◌, length, get_or, take, drop, map, min, codes, ℤ, pos, arith, append_assoc, append-nil, length-drop, length-take-le, get_or-take, get_or-drop, refl, sym, ap, ◌∙◌}
+use Rattle.std.proofs.lemmas.List.{take_min, drop_min, get_or-map}
 use Rattle.std.proofs.lemmas.List.Concat.{flat_map-append}
-use Rattle.std.specs.List.{flat_map}
+use Rattle.std.proofs.lemmas.List.FromFn.{fill_by_all, map-range_with_len_more}
+use Rattle.std.proofs.lemmas.List.Sums.{sum_by_more, sum_by_more_le}
+use Rattle.std.specs.List.{flat_map, range_with_len}
+use Rattle.lists.specs.Listed.{listed}
 use Rattle.text_words.specs.Fields.{line}
 use Rattle.model_types.specs.Lists.{Lists}
 use Rattle.model_types.specs.declared.answers.Bounds.{Bounds}
@@ -12,19 +15,43 @@ use Rattle.model_types.specs.declared.answers.Cause.{Cause}
 use Rattle.model_types.specs.declared.records.Case.{Case}
 use Rattle.model_types.specs.declared.records.Node.{Node}
 use Rattle.model_types.specs.declared.records.Restraint.{Restraint}
-use Rattle.report.specs.Fits.{loads_count}
-use Rattle.report.specs.Report.{answer_lines, candidate_lines, case_lines, displacement_pair, guess_lines, guess_word, load_count, load_pair, node_lines, restraint_lines, uncertified_words}
+use Rattle.report.specs.Report.{answer_lines, bounds_at, bounds_line, bounds_words, candidate_lines, case_lines, guess_lines, guess_word, key_words, load_count, loads_before, loads_count, loads_of, node_bounds, node_key, node_lines, pair, printed, restraint_bounds, restraint_key, restraint_lines, uncertified_words}
 use Rattle.report.proofs.LineLemmas.{next_item, written}
 
--- the bounds of one more node
-pub node_written : (whole out new name : List ℕ) (nodes : List Node) (i : ℕ) (node : Node) (u row rest : List Bounds) → i < length nodes → node ≡ get_or nodes i node → name ≡ node.name
-    → row ≡ take 6 u → rest ≡ drop 6 u → out ++ flat_map line (node_lines (drop i nodes) u) ≡ whole
-    → new ≡ out ++ line (codes "node" ∷ name ∷ flat_map displacement_pair row) → new ++ flat_map line (node_lines (drop (i + 1) nodes) rest) ≡ whole
-node_written whole out new name nodes i node u row rest inside is named row_is rest_is so_far step =
-    let parts : flat_map line (node_lines (node ∷ drop (i + 1) nodes) u) ≡ line (codes "node" ∷ name ∷ flat_map displacement_pair row) ++ flat_map line (node_lines (drop (i + 1) nodes) rest) =
-    rw (row_is, rest_is, named) refl in
-    written whole out new (line (codes "node" ∷ name ∷ flat_map displacement_pair row)) (flat_map line (node_lines (drop i nodes) u)) (flat_map line (node_lines (drop (i + 1) nodes) rest))
-    (ap (λ left. flat_map line (node_lines left u)) (next_item nodes i node inside is) ∙ parts) so_far step
+-- one line more
+pub line_more : (old out new : List ℕ) (row : ℕ → List (List ℕ)) (i : ℕ) → out ≡ old ++ flat_map line (listed i row) → new ≡ out ++ line (row i) → new ≡ old ++ flat_map line (listed (i + 1) row)
+line_more old out new row i so_far step =
+    let more : listed (i + 1) row ≡ listed i row ++ row i ∷ [] = map-range_with_len_more row 0 i i (omega arith) in
+    rw (step, so_far, more) (simp (append_assoc, append-nil, flat_map-append))
+
+-- a part of a list of bounds, place by place
+part_listed : (bounds row : List Bounds) (first count : ℕ) → row ≡ take count (drop first bounds) → first + count ≤ length bounds → row ≡ listed count (λ f. bounds_at bounds (first + f))
+part_listed bounds row first count is inside =
+    let long : length (take count (drop first bounds)) ≡ count = length-take-le count (drop first bounds) (omega (arith, length-drop first bounds)) in
+    is ∙ fill_by_all (λ f. bounds_at bounds (first + f)) (take count (drop first bounds)) count (record { lo = pos 0; hi = pos 0 }) long
+    (λ f here. get_or-take count (drop first bounds) f (record { lo = pos 0; hi = pos 0 }) here ∙ get_or-drop first bounds f (record { lo = pos 0; hi = pos 0 }))
+
+-- the pairs of bounds, printed
+printed_pairs : (n m : ℤ) (at : ℕ → Bounds) (places : List ℕ) → flat_map (pair n m) (map at places) ≡ flat_map bounds_words (map (λ f. printed n m (at f)) places)
+printed_pairs n m at [] = refl
+printed_pairs n m at (f ∷ places) = ap (λ words. bounds_words (printed n m (at f)) ++ words) (printed_pairs n m at places)
+
+-- the line of a part of a list of bounds
+pub part_line : (n m : ℤ) (kind name : List ℕ) (names : List (List ℕ)) (i : ℕ) (bounds row : List Bounds) (first count : ℕ) → name ≡ get_or names i []
+    → row ≡ take count (drop first bounds) → first + count ≤ length bounds
+    → kind ∷ name ∷ flat_map (pair n m) row ≡ key_words kind names i ++ flat_map bounds_words (listed count (λ f. printed n m (bounds_at bounds (first + f))))
+part_line n m kind name names i bounds row first count named is inside =
+    rw (named, part_listed bounds row first count is inside) (ap (λ words. kind ∷ get_or names i [] ∷ words) (printed_pairs n m (λ f. bounds_at bounds (first + f)) (range_with_len 0 count)))
+
+-- the line of one more node
+pub node_written : (old out new name : List ℕ) (nodes : List Node) (i : ℕ) (node : Node) (u row : List Bounds) → i < length nodes → node ≡ get_or nodes i node → name ≡ node.name
+    → row ≡ take 6 (drop (6 * i) u) → 6 * i + 6 ≤ length u → out ≡ old ++ flat_map line (listed i (bounds_line (node_key nodes) (λ _. 6) (node_bounds u)))
+    → new ≡ out ++ line (codes "node" ∷ name ∷ flat_map (pair (pos (10 ^ 9)) (pos (2 ^ 56))) row) → new ≡ old ++ flat_map line (listed (i + 1) (bounds_line (node_key nodes) (λ _. 6) (node_bounds u)))
+node_written old out new name nodes i node u row inside is named row_is enough so_far step =
+    let names = map (λ (r : Node). r.name) nodes in
+    let own : name ≡ get_or names i [] = named ∙ ap (λ (r : Node). r.name) is ∙ sym (get_or-map (λ (r : Node). r.name) nodes i node [] inside) in
+    line_more old out new (bounds_line (node_key nodes) (λ _. 6) (node_bounds u)) i so_far
+    (step ∙ ap (λ words. out ++ line words) (part_line (pos (10 ^ 9)) (pos (2 ^ 56)) (codes "node") name names i u row (6 * i) 6 own row_is enough))
 
 -- the candidate of one more node
 pub guess_written : (whole out new name : List ℕ) (nodes : List Node) (i : ℕ) (node : Node) (u row rest : List ℤ) → i < length nodes → node ≡ get_or nodes i node → name ≡ node.name
@@ -38,19 +65,25 @@ guess_written whole out new name nodes i node u row rest inside is named row_is 
     written whole out new (line (codes "guess" ∷ name ∷ map guess_word row)) (flat_map line (guess_lines (drop i nodes) u)) (flat_map line (guess_lines (drop (i + 1) nodes) rest))
     (ap (λ left. flat_map line (guess_lines left u)) (next_item nodes i node inside is) ∙ parts) so_far step
 
--- the loads of one more restraint
-pub restraint_written : (whole out new name : List ℕ) (restraints : List Restraint) (i count : ℕ) (r : Restraint) (loads row rest : List Bounds) → i < length restraints → r ≡ get_or restraints i r → name ≡ r.name
-    → count ≡ load_count r.kind → row ≡ take count loads → rest ≡ drop count loads → out ++ flat_map line (restraint_lines (drop i restraints) loads) ≡ whole
-    → new ≡ out ++ line (codes "restraint" ∷ name ∷ flat_map load_pair row) → new ++ flat_map line (restraint_lines (drop (i + 1) restraints) rest) ≡ whole
-restraint_written whole out new name restraints i count r loads row rest inside is named counted row_is rest_is so_far step =
-    let parts : flat_map line (restraint_lines (r ∷ drop (i + 1) restraints) loads) ≡ line (codes "restraint" ∷ name ∷ flat_map load_pair row) ++ flat_map line (restraint_lines (drop (i + 1) restraints) rest) =
-    rw (row_is, rest_is, counted, named) refl in
-    written whole out new (line (codes "restraint" ∷ name ∷ flat_map load_pair row)) (flat_map line (restraint_lines (drop i restraints) loads)) (flat_map line (restraint_lines (drop (i + 1) restraints) rest))
-    (ap (λ left. flat_map line (restraint_lines left loads)) (next_item restraints i r inside is) ∙ parts) so_far step
+-- the line of one more restraint
+pub restraint_written : (old out new name : List ℕ) (restraints : List Restraint) (i count : ℕ) (r : Restraint) (loads row : List Bounds) → i < length restraints → r ≡ get_or restraints i r → name ≡ r.name
+    → count ≡ load_count r.kind → row ≡ take count (drop (loads_before restraints i) loads) → loads_before restraints i + count ≤ length loads
+    → out ≡ old ++ flat_map line (listed i (bounds_line (restraint_key restraints) (loads_of restraints) (restraint_bounds restraints loads)))
+    → new ≡ out ++ line (codes "restraint" ∷ name ∷ flat_map (pair (pos 1000) (pos (2 ^ 40))) row)
+    → new ≡ old ++ flat_map line (listed (i + 1) (bounds_line (restraint_key restraints) (loads_of restraints) (restraint_bounds restraints loads)))
+restraint_written old out new name restraints i count r loads row inside is named counted row_is enough so_far step =
+    let names = map (λ (x : Restraint). x.name) restraints in
+    let own : name ≡ get_or names i [] = named ∙ ap (λ (x : Restraint). x.name) is ∙ sym (get_or-map (λ (x : Restraint). x.name) restraints i r [] inside) in
+    let many : loads_of restraints i ≡ count = get_or-map (λ (x : Restraint). load_count x.kind) restraints i r 0 inside ∙ ap (λ (x : Restraint). load_count x.kind) (sym is) ∙ sym counted in
+    line_more old out new (bounds_line (restraint_key restraints) (loads_of restraints) (restraint_bounds restraints loads)) i so_far
+    (rw many (step ∙ ap (λ words. out ++ line words) (part_line (pos 1000) (pos (2 ^ 40)) (codes "restraint") name names i loads row (loads_before restraints i) count own row_is enough)))
 
--- how many loads the restraints from one on have
-pub loads_left : (restraints : List Restraint) (i : ℕ) (r : Restraint) → i < length restraints → r ≡ get_or restraints i r → loads_count (drop i restraints) ≡ load_count r.kind + loads_count (drop (i + 1) restraints)
-loads_left restraints i r inside is = ap loads_count (next_item restraints i r inside is)
+-- how many loads there are before the next restraint, and that they are among all
+pub loads_more : (restraints : List Restraint) (i : ℕ) (r : Restraint) → i < length restraints → r ≡ get_or restraints i r
+    → (loads_before restraints (i + 1) ≡ loads_before restraints i + load_count r.kind) × (loads_before restraints i + load_count r.kind ≤ loads_count restraints)
+loads_more restraints i r inside is =
+    let count = λ (x : Restraint). load_count x.kind in
+    (rw is (sum_by_more count restraints i r inside), rw is (sum_by_more_le count restraints i r inside))
 
 -- the lines of a certified case
 pub certified_written : (m : Lists) (c : Case) (answer : CaseAnswer) (u loads : List Bounds) (states : List Bool) (old begun said new name : List ℕ) (nodes : List Node) (restraints : List Restraint) (us ls : List Bounds) → answer ≡ Certified u loads states

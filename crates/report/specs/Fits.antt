@@ -1,13 +1,12 @@
 -- Which answers are those of a model's cases.
-use Rattle.std.specs.Prelude.{◌≡◌, ◌⊎◌, ℕ, ◌+◌, ◌*◌, ◌^◌, ◌<◌, List, [], ◌∷◌, length, All, ℤ, unsigned_abs, ⊤}
+use Rattle.std.specs.Prelude.{◌≡◌, ◌⊎◌, ℕ, ◌*◌, ◌^◌, ◌<◌, List, length, All, ℤ, unsigned_abs, ⊤}
 use Rattle.model_types.specs.Lists.{Lists}
-use Rattle.model_types.specs.declared.records.Restraint.{Restraint}
 use Rattle.model_types.specs.declared.answers.Bounds.{Bounds}
 use Rattle.model_types.specs.declared.answers.Cause.{Cause}
 use Rattle.model_types.specs.declared.answers.Cause.TheVariants as causes
 use Rattle.model_types.specs.declared.answers.CaseAnswer.{CaseAnswer}
 use Rattle.model_types.specs.declared.answers.CaseAnswer.TheVariants.{Certified, Uncertified}
-use Rattle.report.specs.Report.{load_count}
+use Rattle.report.specs.Report.{loads_count}
 
 -- a number of an answer is below 2^90 in size
 abbrev pub IsModest : ℤ → Type 0
@@ -15,11 +14,6 @@ IsModest z = unsigned_abs z < 2 ^ 90
 
 abbrev pub AreModest : List Bounds → Type 0
 AreModest bounds = All (λ b. IsModest b.lo × IsModest b.hi) bounds
-
--- how many loads the restraints have together
-abbrev pub loads_count : List Restraint → ℕ
-loads_count [] = 0
-loads_count (r ∷ restraints) = load_count r.kind + loads_count restraints
 
 -- the records that a cause names are there
 abbrev pub IsCauseIn : Lists → Cause → Type 0

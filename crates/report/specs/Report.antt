@@ -1,9 +1,10 @@
 -- The report of an analysis: its lines, word by word. Displacements are written in nanometres and nanoradians, loads in mN
 -- and mN m, each pair rounded outwards.
-use Rattle.std.specs.Prelude.{ℕ, ◌^◌, ◌==◌, List, [], ◌∷◌, ◌++◌, length, take, drop, map, codes, ℤ, pos, ◌*ℤ◌, if◌then◌else◌, Bool, false, true}
+use Rattle.std.specs.Prelude.{ℕ, ◌+◌, ◌*◌, ◌^◌, ◌==◌, List, [], ◌∷◌, ◌++◌, length, take, drop, map, codes, ℤ, pos, ◌*ℤ◌, if◌then◌else◌, Bool, false, true}
 use Rattle.std.specs.Fmt.{decimal, signed_decimal}
-use Rattle.std.specs.List.{flat_map, slice_index_or}
+use Rattle.std.specs.List.{flat_map, slice_index_or, sum_by}
 use Rattle.int_laws.specs.Division.{floor_of, ceil_of, nearest_of}
+use Rattle.lists.specs.Listed.{listed}
 use Rattle.model_types.specs.Lists.{Lists}
 use Rattle.model_types.specs.declared.records.Node.{Node}
 use Rattle.model_types.specs.declared.records.Case.{Case}
@@ -34,24 +35,38 @@ bounds_words b = signed_decimal b.lo ∷ signed_decimal b.hi ∷ []
 abbrev pub pair : ℤ → ℤ → Bounds → List Word
 pair n m b = bounds_words (printed n m b)
 
--- 2^-56 m or rad in nanometres or nanoradians
-abbrev pub displacement_pair : Bounds → List Word
-displacement_pair = pair (pos (10 ^ 9)) (pos (2 ^ 56))
-
--- 2^-40 N or N m in mN or mN m
-abbrev pub load_pair : Bounds → List Word
-load_pair = pair (pos 1000) (pos (2 ^ 40))
-
 -- a candidate's displacement, in nanometres or nanoradians, to the nearest
 abbrev pub guess_word : ℤ → Word
 guess_word u = signed_decimal (nearest_of (u *ℤ pos (10 ^ 9)) (pos (2 ^ 56)))
 
 -- ---- a certified case
 
+-- the bounds at a place of a list
+abbrev pub bounds_at : List Bounds → ℕ → Bounds
+bounds_at bounds place = slice_index_or bounds place (record { lo = pos 0; hi = pos 0 })
+
+-- what stands first in the line of a record: the word of its kind, and its name
+abbrev pub key_words : Word → List Word → ℕ → List Word
+key_words kind names n = kind ∷ slice_index_or names n [] ∷ []
+
+-- the line of a record: its key, and its pairs behind it
+abbrev pub bounds_line : (ℕ → List Word) → (ℕ → ℕ) → (ℕ → ℕ → Bounds) → ℕ → List Word
+bounds_line key pairs pair n = key n ++ flat_map bounds_words (listed (pairs n) (pair n))
+
+-- a line for each record
+abbrev pub bounds_lines : ℕ → (ℕ → List Word) → (ℕ → ℕ) → (ℕ → ℕ → Bounds) → List (List Word)
+bounds_lines count key pairs pair = listed count (bounds_line key pairs pair)
+
+-- the bounds of displacement f of node n, in the unit of the report
+abbrev pub node_bounds : List Bounds → ℕ → ℕ → Bounds
+node_bounds u n f = printed (pos (10 ^ 9)) (pos (2 ^ 56)) (bounds_at u (6 * n + f))
+
+abbrev pub node_key : List Node → ℕ → List Word
+node_key nodes = key_words (codes "node") (map (λ r. r.name) nodes)
+
 -- the lines of the nodes, each with the bounds of its six displacements
 abbrev pub node_lines : List Node → List Bounds → List (List Word)
-node_lines [] u = []
-node_lines (node ∷ nodes) u = (codes "node" ∷ node.name ∷ flat_map displacement_pair (take 6 u)) ∷ node_lines nodes (drop 6 u)
+node_lines nodes u = bounds_lines (length nodes) (node_key nodes) (λ n. 6) (node_bounds u)
 
 -- how many members, and so loads, a restraint has
 abbrev pub load_count : RestraintKind → ℕ
@@ -59,11 +74,28 @@ load_count (kinds.Anchor kt kr) = 6
 load_count (kinds.Linear dx dy dz k) = 1
 load_count (kinds.Twist dx dy dz k) = 1
 
+-- how many loads the restraints have together
+abbrev pub loads_count : List Restraint → ℕ
+loads_count restraints = sum_by (λ r. load_count r.kind) restraints
+
+-- how many loads restraint n has, and how many the restraints before it
+abbrev pub loads_of : List Restraint → ℕ → ℕ
+loads_of restraints n = slice_index_or (map (λ r. load_count r.kind) restraints) n 0
+
+abbrev pub loads_before : List Restraint → ℕ → ℕ
+loads_before restraints n = loads_count (take n restraints)
+
+-- the bounds of load f of restraint n, in the unit of the report
+abbrev pub restraint_bounds : List Restraint → List Bounds → ℕ → ℕ → Bounds
+restraint_bounds restraints loads n f = printed (pos 1000) (pos (2 ^ 40)) (bounds_at loads (loads_before restraints n + f))
+
+abbrev pub restraint_key : List Restraint → ℕ → List Word
+restraint_key restraints = key_words (codes "restraint") (map (λ r. r.name) restraints)
+
 -- the lines of the restraints, each with the bounds of its loads
 abbrev pub restraint_lines : List Restraint → List Bounds → List (List Word)
-restraint_lines [] loads = []
-restraint_lines (r ∷ restraints) loads =
-    (codes "restraint" ∷ r.name ∷ flat_map load_pair (take (load_count r.kind) loads)) ∷ restraint_lines restraints (drop (load_count r.kind) loads)
+restraint_lines restraints loads =
+    bounds_lines (length restraints) (restraint_key restraints) (loads_of restraints) (restraint_bounds restraints loads)
 
 -- ---- an uncertified case
 

@@ -1,4 +1,5 @@
-ghost use Rattle.std.specs.Prelude.{◌≡◌, ◌<◌, [], ◌∷◌, ◌++◌, length, OnOk};
+ghost use Rattle.std.specs.Prelude.{◌≡◌, ◌<◌, [], ◌∷◌, ◌++◌, length, OnErr, OnOk};
+ghost use Rattle.std.specs.Io.{StartsWith};
 ghost use Rattle.report.specs.Fits.{IsCauseIn};
 ghost use Rattle.report.specs.Report.{cause_words, element_name, freedom_word, node_name, restraint_name, side_word};
 ghost use Rattle.report.specs.Words.{spaced};
@@ -10,7 +11,8 @@ use model_types::{Cause, ElementId, Model, NoMemory, NodeId, RestraintId};
 /// Writes the words of a cause, each behind a space.
 pub(crate) fn push_cause(out: &mut Vec<u8>, m: &Model, cause: &Cause) -> Result<(), NoMemory>
     requires { IsCauseIn m.now cause.now }
-    ensures { OnOk result (out.new.items ≡ out.old.items ++ spaced (cause_words m.now cause.now)) }
+    ensures written { OnOk result (out.new.items ≡ out.old.items ++ spaced (cause_words m.now cause.now)) }
+    ensures kept { OnErr result (StartsWith out.new.items out.old.items) }
 {
     match *cause {
         Cause::WidthElement(element) => {
@@ -55,7 +57,8 @@ pub(crate) fn push_cause(out: &mut Vec<u8>, m: &Model, cause: &Cause) -> Result<
 /// Writes the names of a node and of a freedom.
 fn push_place(out: &mut Vec<u8>, m: &Model, node: NodeId, freedom: u32) -> Result<(), NoMemory>
     requires { node.0 < length m.now.nodes }
-    ensures { OnOk result (out.new.items ≡ out.old.items ++ spaced (node_name m.now node.0 ∷ freedom_word freedom ∷ [])) }
+    ensures written { OnOk result (out.new.items ≡ out.old.items ++ spaced (node_name m.now node.0 ∷ freedom_word freedom ∷ [])) }
+    ensures kept { OnErr result (StartsWith out.new.items out.old.items) }
 {
     push_word(out, node_name(m, node))?;
     push_word(out, freedom_word(freedom))

@@ -1,5 +1,5 @@
 //! The report of an analysis.
-#![tactic(auto)]
+#![tactic(auto, using(std::proofs::Transfers::starts_with_of_append, std::proofs::Transfers::starts_with_trans))]
 
 mod causes;
 mod lines;

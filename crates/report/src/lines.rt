@@ -1,4 +1,5 @@
-ghost use Rattle.std.specs.Prelude.{◌≡◌, ◌++◌, All, OnOk, IfOk};
+ghost use Rattle.std.specs.Prelude.{◌≡◌, ◌++◌, All, OnErr, OnOk, IfOk};
+ghost use Rattle.std.specs.Io.{StartsWith};
 ghost use Rattle.std.specs.List.{flat_map};
 ghost use Rattle.report.specs.Fits.{AreAnswersOf, FitsModel, IsCauseIn, IsModest};
 ghost use Rattle.report.specs.Report.{answer_lines, candidate_lines, case_lines, count_words, head_lines, report_of, uncertified_words};
@@ -26,14 +27,16 @@ pub fn bytes(alloc: Global, m: &Model, cases: &[CaseAnswer]) -> Result<Vec<u8>, 
 
 /// Writes the two lines at the head.
 fn push_head(out: &mut Vec<u8>, m: &Model) -> Result<(), NoMemory>
-    ensures { OnOk result (out.new.items ≡ out.old.items ++ flat_map line (head_lines m.now)) }
+    ensures written { OnOk result (out.new.items ≡ out.old.items ++ flat_map line (head_lines m.now)) }
+    ensures kept { OnErr result (StartsWith out.new.items out.old.items) }
 {
     push_line(out, &[b"pipeflex", b"report", b"1"])?;
     push_counts(out, m)
 }
 
 fn push_counts(out: &mut Vec<u8>, m: &Model) -> Result<(), NoMemory>
-    ensures { OnOk result (out.new.items ≡ out.old.items ++ line (count_words m.now)) }
+    ensures written { OnOk result (out.new.items ≡ out.old.items ++ line (count_words m.now)) }
+    ensures kept { OnErr result (StartsWith out.new.items out.old.items) }
 {
     let (mut nodes, mut elements, mut restraints) = (Buffer::new(), Buffer::new(), Buffer::new());
     let (mut cases, mut checks) = (Buffer::new(), Buffer::new());
@@ -47,7 +50,8 @@ fn push_counts(out: &mut Vec<u8>, m: &Model) -> Result<(), NoMemory>
 
 fn push_answers(out: &mut Vec<u8>, m: &Model, answers: &[CaseAnswer]) -> Result<(), NoMemory>
     requires { AreAnswersOf m.now answers.now }
-    ensures { OnOk result (out.new.items ≡ out.old.items ++ flat_map line (case_lines m.now m.now.cases answers.now)) }
+    ensures written { OnOk result (out.new.items ≡ out.old.items ++ flat_map line (case_lines m.now m.now.cases answers.now)) }
+    ensures kept { OnErr result (StartsWith out.new.items out.old.items) }
 {
     let cases = m.cases();
     for (i, case) in cases.iter().enumerate() {
@@ -64,7 +68,8 @@ fn push_answer(
     answer: &CaseAnswer,
 ) -> Result<(), NoMemory>
     requires { FitsModel m.now answer.now }
-    ensures { OnOk result (out.new.items ≡ out.old.items ++ flat_map line (answer_lines m.now case.now answer.now)) }
+    ensures written { OnOk result (out.new.items ≡ out.old.items ++ flat_map line (answer_lines m.now case.now answer.now)) }
+    ensures kept { OnErr result (StartsWith out.new.items out.old.items) }
 {
     match answer {
         CaseAnswer::Certified { u, loads, .. } => {
@@ -88,7 +93,8 @@ fn push_uncertified(
     cause: &Cause,
 ) -> Result<(), NoMemory>
     requires { IsCauseIn m.now cause.now }
-    ensures { OnOk result (out.new.items ≡ out.old.items ++ line (uncertified_words m.now case.now cause.now)) }
+    ensures written { OnOk result (out.new.items ≡ out.old.items ++ line (uncertified_words m.now case.now cause.now)) }
+    ensures kept { OnErr result (StartsWith out.new.items out.old.items) }
 {
     out.extend_from_slice(b"case")?;
     push_word(out, case.name.bytes())?;
@@ -106,7 +112,8 @@ fn push_candidate(
     guess: &[i128],
 ) -> Result<(), NoMemory>
     requires { All IsModest guess.now }
-    ensures { OnOk result (out.new.items ≡ out.old.items ++ flat_map line (candidate_lines m.now cause.now guess.now)) }
+    ensures written { OnOk result (out.new.items ≡ out.old.items ++ flat_map line (candidate_lines m.now cause.now guess.now)) }
+    ensures kept { OnErr result (StartsWith out.new.items out.old.items) }
 {
     if let Cause::State { .. } = cause {
         push_guesses(out, m.nodes(), guess)?;

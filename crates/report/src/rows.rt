@@ -1,7 +1,8 @@
-ghost use Rattle.std.specs.Prelude.{◌≡◌, ◌*◌, ◌∷◌, ◌++◌, codes, map, length, All, OnOk};
+ghost use Rattle.std.specs.Prelude.{◌≡◌, ◌*◌, ◌∷◌, ◌++◌, codes, map, length, All, OnErr, OnOk};
+ghost use Rattle.std.specs.Io.{StartsWith};
 ghost use Rattle.std.specs.List.{flat_map};
-ghost use Rattle.report.specs.Fits.{AreModest, IsModest, loads_count};
-ghost use Rattle.report.specs.Report.{guess_lines, guess_word, load_count, node_lines, pair, restraint_lines};
+ghost use Rattle.report.specs.Fits.{AreModest, IsModest};
+ghost use Rattle.report.specs.Report.{guess_lines, guess_word, load_count, loads_count, node_lines, pair, restraint_lines};
 ghost use Rattle.report.specs.Rounding.{IsScale};
 ghost use Rattle.report.specs.Words.{spaced};
 ghost use Rattle.text_words.specs.Fields.{line};
@@ -19,7 +20,8 @@ const FREEDOMS: usize = 6;
 pub(crate) fn push_nodes(out: &mut Vec<u8>, nodes: &[Node], u: &[Bounds]) -> Result<(), NoMemory>
     requires one_each { length u.now ≡ 6 * length nodes.now }
     requires modest { AreModest u.now }
-    ensures { OnOk result (out.new.items ≡ out.old.items ++ flat_map line (node_lines nodes.now u.now)) }
+    ensures written { OnOk result (out.new.items ≡ out.old.items ++ flat_map line (node_lines nodes.now u.now)) }
+    ensures kept { OnErr result (StartsWith out.new.items out.old.items) }
 {
     let mut rest = u;
     for node in nodes {
@@ -45,7 +47,8 @@ pub(crate) fn push_restraints(
 ) -> Result<(), NoMemory>
     requires one_each { length loads.now ≡ loads_count restraints.now }
     requires modest { AreModest loads.now }
-    ensures { OnOk result (out.new.items ≡ out.old.items ++ flat_map line (restraint_lines restraints.now loads.now)) }
+    ensures written { OnOk result (out.new.items ≡ out.old.items ++ flat_map line (restraint_lines restraints.now loads.now)) }
+    ensures kept { OnErr result (StartsWith out.new.items out.old.items) }
 {
     let mut rest = loads;
     for restraint in restraints {
@@ -77,7 +80,8 @@ pub(crate) fn load_count(kind: &RestraintKind) -> usize
 /// Writes a line for each node: `guess`, its name and its six displacements, to the nearest.
 pub(crate) fn push_guesses(out: &mut Vec<u8>, nodes: &[Node], u: &[i128]) -> Result<(), NoMemory>
     requires { All IsModest u.now }
-    ensures { OnOk result (out.new.items ≡ out.old.items ++ flat_map line (guess_lines nodes.now u.now)) }
+    ensures written { OnOk result (out.new.items ≡ out.old.items ++ flat_map line (guess_lines nodes.now u.now)) }
+    ensures kept { OnErr result (StartsWith out.new.items out.old.items) }
 {
     let mut rest = u;
     for node in nodes {
@@ -92,7 +96,8 @@ pub(crate) fn push_guesses(out: &mut Vec<u8>, nodes: &[Node], u: &[i128]) -> Res
 /// Writes the line of a node's displacements.
 fn push_guess(out: &mut Vec<u8>, name: &[u8], u: &[i128]) -> Result<(), NoMemory>
     requires { All IsModest u.now }
-    ensures { OnOk result (out.new.items ≡ out.old.items ++ line (codes "guess" ∷ name.now ∷ map guess_word u.now)) }
+    ensures written { OnOk result (out.new.items ≡ out.old.items ++ line (codes "guess" ∷ name.now ∷ map guess_word u.now)) }
+    ensures kept { OnErr result (StartsWith out.new.items out.old.items) }
 {
     out.extend_from_slice(b"guess")?;
     push_word(out, name)?;
@@ -103,7 +108,8 @@ fn push_guess(out: &mut Vec<u8>, name: &[u8], u: &[i128]) -> Result<(), NoMemory
 
 fn push_guess_words(out: &mut Vec<u8>, u: &[i128]) -> Result<(), NoMemory>
     requires { All IsModest u.now }
-    ensures { OnOk result (out.new.items ≡ out.old.items ++ spaced (map guess_word u.now)) }
+    ensures written { OnOk result (out.new.items ≡ out.old.items ++ spaced (map guess_word u.now)) }
+    ensures kept { OnErr result (StartsWith out.new.items out.old.items) }
 {
     for z in u {
         push_number(out, rounded(*z, NANO, DISPLACEMENT_UNITS))?;
@@ -122,7 +128,8 @@ fn push_row(
 ) -> Result<(), NoMemory>
     requires modest { AreModest bounds.now }
     requires scale { IsScale n m }
-    ensures { OnOk result (out.new.items ≡ out.old.items ++ line (first.now ∷ name.now ∷ flat_map (pair n m) bounds.now)) }
+    ensures written { OnOk result (out.new.items ≡ out.old.items ++ line (first.now ∷ name.now ∷ flat_map (pair n m) bounds.now)) }
+    ensures kept { OnErr result (StartsWith out.new.items out.old.items) }
 {
     out.extend_from_slice(first)?;
     push_word(out, name)?;
@@ -134,7 +141,8 @@ fn push_row(
 fn push_pairs(out: &mut Vec<u8>, bounds: &[Bounds], n: i128, m: i128) -> Result<(), NoMemory>
     requires modest { AreModest bounds.now }
     requires scale { IsScale n m }
-    ensures { OnOk result (out.new.items ≡ out.old.items ++ spaced (flat_map (pair n m) bounds.now)) }
+    ensures written { OnOk result (out.new.items ≡ out.old.items ++ spaced (flat_map (pair n m) bounds.now)) }
+    ensures kept { OnErr result (StartsWith out.new.items out.old.items) }
 {
     for pair in bounds {
         push_pair(out, pair, n, m)?;
@@ -147,7 +155,8 @@ fn push_pair(out: &mut Vec<u8>, bounds: &Bounds, n: i128, m: i128) -> Result<(),
     requires lo { IsModest bounds.now.lo }
     requires hi { IsModest bounds.now.hi }
     requires scale { IsScale n m }
-    ensures { OnOk result (out.new.items ≡ out.old.items ++ spaced (pair n m bounds.now)) }
+    ensures written { OnOk result (out.new.items ≡ out.old.items ++ spaced (pair n m bounds.now)) }
+    ensures kept { OnErr result (StartsWith out.new.items out.old.items) }
 {
     push_number(out, rounded_down(bounds.lo, n, m))?;
     push_number(out, rounded_up(bounds.hi, n, m))?;

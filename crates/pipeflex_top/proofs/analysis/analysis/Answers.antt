@@ -4,7 +4,7 @@ use Rattle.report.specs.Fits.{AreAnswersOf}
 use Rattle.report.specs.Report.{report_of}
 use Rattle.pipeflex_top.proofs.Fits.{answers_fit}
 use Rattle.pipeflex_top.proofs.Outcomes.{IsOrder-text}
-use Rattle.pipeflex_top.proofs.Printed.{PrintBounds-always}
+use Rattle.pipeflex_top.proofs.Told.{report_told}
 use Rattle.pipeflex_top.proofs.analysis.analysis.Goals as goal
 
 pub answers-requires-clause-order : goal.answers-requires-clause-order
@@ -20,10 +20,11 @@ pub returns : goal.returns
 returns c =
     let model = c.args.model.now in
     let found = c.in_ok-answers in
+    let written : c.in_ok-bytes.bytes.items ≡ report_of model found.answers.items = subst (λ answers. c.in_ok-bytes.bytes.items ≡ report_of model answers) c.deref-2.ensures.value c.in_ok-bytes.ensures in
     record {
       answers = found.answers.items;
       reached = found.ensures.answers;
-      written = subst (λ answers. c.in_ok-bytes.bytes.items ≡ report_of model answers) c.deref-2.ensures.value c.in_ok-bytes.ensures;
+      written = written;
       ends = subst (λ answers. EndsWith answers c.ending_with-status.result) c.deref.ensures.value c.ending_with-status.ensures;
-      bounds = PrintBounds-always c.printed_pairs_hold.ensures model found.answers.items found.ensures.hold;
+      told = report_told c.printed_pairs_hold.ensures c.elements_have_eight_members.ensures model found.answers.items c.in_ok-bytes.bytes.items c.requires.anchors found.ensures.answers.one_each found.ensures.hold written;
     }

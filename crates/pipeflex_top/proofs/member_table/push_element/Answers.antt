@@ -18,6 +18,6 @@ returns-in_ok-push_kappas-in-Ok-clause-bytes c =
     let new = c.push_kappas.new.out.items in
     let made = members_of_element c.args.model.now c.args.element.now in
     let is : made ≡ Ok c.in-Ok.members = sym c.element_members.ensures.value ∙ c.in-Ok.is in
-    let kappas = rw c.as_slice.ensures at c.in_ok-push_kappas-in-Ok.ensures in
+    let kappas = rw c.as_slice.ensures at c.in_ok-push_kappas-in-Ok.ensures.bytes in
     subst (λ name. new ≡ old ++ flat_map line (element_lines name made)) c.bytes-name.ensures.bytes
     (element_written old c.push_line.new.out.items new c.bytes-name.result.now made c.in-Ok.members is c.in_ok-push_line-in-Ok.ensures.written kappas)

@@ -6,8 +6,8 @@ use Rattle.text_words.specs.Fields.{line}
 use Rattle.pipeflex_top.specs.MemberTable.{kappa_words}
 use Rattle.pipeflex_top.proofs.member_table.push_kappa.Goals as goal
 
-pub returns : goal.returns
-returns c =
+pub returns-clause-bytes : goal.returns-clause-bytes
+returns-clause-bytes c =
     let kappa = c.kappa.inside in
     let lo_fits : FitsSigned w128 kappa.lo = search rules in
     let hi_fits : FitsSigned w128 kappa.hi = search rules in

@@ -6,7 +6,7 @@ use Rattle.std.specs.List.{flat_map}
 use Rattle.model_types.specs.declared.answers.Bounds.{Bounds}
 use Rattle.report.specs.Report.{pair}
 use Rattle.report.specs.Words.{spaced}
-use Rattle.report.proofs.LineLemmas.{written}
+use Rattle.report.proofs.LineLemmas.{still_starts, written}
 use Rattle.report.proofs.rows.push_pairs.Goals as goal
 
 pub push_pair-requires : goal.push_pair-requires
@@ -24,5 +24,8 @@ loop-pair-preserved c =
     let b = get_or bounds i zero in
     let next : drop i bounds ≡ b ∷ drop (i + 1) bounds = rw add-one (drop-cons bounds i zero c.loop-pair-test.true) in
     let left = flat_map (pair n m) (drop (i + 1) bounds) in
-    written (c.args.out.now.items ++ spaced (flat_map (pair n m) bounds)) c.loop-pair.out.items c.push_pair.new.out.items (spaced (pair n m b)) (spaced (flat_map (pair n m) (drop i bounds))) (spaced left)
-    (ap (λ (bs : List Bounds). spaced (flat_map (pair n m) bs)) next ∙ flat_map-append (λ (word : List ℕ). 32 ∷ word) (pair n m b) left) c.loop-pair.invariant c.in_ok-push_pair.ensures
+    record {
+      written = written (c.args.out.now.items ++ spaced (flat_map (pair n m) bounds)) c.loop-pair.out.items c.push_pair.new.out.items (spaced (pair n m b)) (spaced (flat_map (pair n m) (drop i bounds))) (spaced left)
+          (ap (λ (bs : List Bounds). spaced (flat_map (pair n m) bs)) next ∙ flat_map-append (λ (word : List ℕ). 32 ∷ word) (pair n m b) left) c.loop-pair.invariant.written c.in_ok-push_pair.ensures.written;
+      kept = still_starts c.args.out.now.items c.loop-pair.out.items c.push_pair.new.out.items (spaced (pair n m b)) c.in_ok-push_pair.ensures.written c.loop-pair.invariant.kept;
+    }

@@ -1,13 +1,15 @@
-use Rattle.std.proofs.Common.{◌≡◌, ◌++◌, length, drop}
+use Rattle.std.proofs.Common.{◌≡◌, ◌≤◌, ◌++◌, length, drop}
 use Rattle.std.specs.List.{flat_map}
+use Rattle.lists.specs.Listed.{listed}
 use Rattle.text_words.specs.Fields.{line}
-use Rattle.report.specs.Fits.{AreModest, loads_count}
-use Rattle.report.specs.Report.{restraint_lines}
+use Rattle.report.specs.Fits.{AreModest}
+use Rattle.report.specs.Report.{bounds_line, loads_before, loads_of, restraint_bounds, restraint_key}
 use Rattle.report.proofs.rows.push_restraints.Given as goal
 
 abbrev pub invariant-loop-restraint : goal.invariant-loop-restraint
 invariant-loop-restraint l = record {
-  one_each : length l.rest ≡ loads_count (drop l.restraint-index l.restraints);
+  inside : l.restraint-index ≤ length l.restraints;
+  left : l.rest ≡ drop (loads_before l.restraints l.restraint-index) l.loads;
   modest : AreModest l.rest;
-  written : l.out.items ++ flat_map line (restraint_lines (drop l.restraint-index l.restraints) l.rest) ≡ l.fn.out.items ++ flat_map line (restraint_lines l.restraints l.loads);
+  written : l.out.items ≡ l.fn.out.items ++ flat_map line (listed l.restraint-index (bounds_line (restraint_key l.restraints) (loads_of l.restraints) (restraint_bounds l.restraints l.loads)));
 }

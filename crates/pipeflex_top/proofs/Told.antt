@@ -1,0 +1,103 @@
+-- The lines of a report tell what holds: what lies within the bounds of a case lies within the pairs of its lines.
+use Rattle.std.proofs.Common.{◌≡◌, ℕ, zero, suc, ◌+◌, ◌*◌, ◌^◌, ◌<◌, List, [], ◌∷◌, ◌++◌, length, get_or, All, pos, refl, sym, ap, ◌∙◌, append-nil, arith}
+use Rattle.std.proofs.lemmas.List.{get_or-map}
+use Rattle.std.proofs.lemmas.List.Sums.{sum_by_more_le}
+use Rattle.std.proofs.lemmas.Option.{slice_get-get_or}
+use Rattle.std.specs.List.{flat_map}
+use Rattle.case_run.specs.Certified.{element_member_count}
+use Rattle.case_run.specs.Equilibria.{AreWithin, OfEquilibria, HoldsAlways, HoldAlways}
+use Rattle.load_vectors.specs.Loads.{case_at, no_case}
+use Rattle.member_set.specs.Realisation.{force_in, fraction, force_fraction}
+use Rattle.model_types.specs.Lists.{Lists}
+use Rattle.model_types.specs.declared.answers.Bounds.{Bounds}
+use Rattle.model_types.specs.declared.answers.Cause.TheVariants as causes
+use Rattle.model_types.specs.declared.answers.CaseAnswer.{CaseAnswer}
+use Rattle.model_types.specs.declared.answers.CaseAnswer.TheVariants.{Certified, Uncertified}
+use Rattle.model_types.specs.declared.records.Case.{Case}
+use Rattle.model_types.specs.declared.records.Restraint.{Restraint}
+use Rattle.report.specs.Report.{Word, answer_lines, bounds_at, case_lines, end_lines, head_lines, load_count, loads_before, loads_count, loads_of, node_bounds, node_lines, report_of, restraint_bounds, restraint_lines}
+use Rattle.report.specs.Rounding.{PrintedHolds}
+use Rattle.structure.specs.Anchors.{HasAnchorsAlone}
+use Rattle.structure.specs.Elements.{ElementsHaveEightMembers}
+use Rattle.text_words.specs.Fields.{line}
+use Rattle.pipeflex_top.specs.Told.{ArePaired, IsCaseText, certified, uncertified, IsReportText, node_displacements, restraint_loads}
+use Rattle.pipeflex_top.proofs.Fits.{model_has}
+
+-- ---- a certified case
+
+nodes_paired : PrintedHolds → (m : Lists) (case : ℕ) (u loads : List Bounds) → OfEquilibria m case (λ r exact. AreWithin r exact (element_member_count m) u loads)
+    → ArePaired m case (node_displacements m) (node_bounds u)
+nodes_paired holds m case u loads always = λ b case_loads r exact structure loaded realised balanced n f node freedom.
+    let within = always b case_loads r exact structure loaded realised balanced in
+    let own : n < length m.nodes = node in
+    let six : f < 6 = freedom in
+    let inside : 6 * n + f < r.stiffness.rows = omega (arith, realised.all_rows, structure.nodes, own, six) in
+    holds (pos (10 ^ 9)) (pos (2 ^ 56)) (omega arith) (omega arith) (bounds_at u (6 * n + f)) (fraction (exact (6 * n + f)) r.stiffness.denominator) (within.displacement (6 * n + f) inside)
+
+-- a load of a restraint is one of the loads of all
+load_inside : (restraints : List Restraint) (n f : ℕ) → n < length restraints → f < loads_of restraints n → loads_before restraints n + f < loads_count restraints
+load_inside [] n f inside few = absurd (omega (arith, inside))
+load_inside (r ∷ restraints) n f inside few =
+    let count = λ (x : Restraint). load_count x.kind in
+    let own : loads_of (r ∷ restraints) n ≡ count (get_or (r ∷ restraints) n r) = get_or-map count (r ∷ restraints) n r 0 inside in
+    omega (arith, own, few, sum_by_more_le count (r ∷ restraints) n r inside)
+
+restraints_paired : PrintedHolds → ElementsHaveEightMembers → (m : Lists) (case : ℕ) (u loads : List Bounds) → HasAnchorsAlone m
+    → OfEquilibria m case (λ r exact. AreWithin r exact (element_member_count m) u loads) → ArePaired m case (restraint_loads m) (restraint_bounds m.restraints loads)
+restraints_paired holds eight m case u loads anchors always = λ b case_loads r exact structure loaded realised balanced n f restraint own.
+    let within = always b case_loads r exact structure loaded realised balanced in
+    let k = loads_before m.restraints n + f in
+    let among : k < loads_count m.restraints = load_inside m.restraints n f restraint own in
+    let members = model_has eight m b.members anchors structure.members in
+    let inside : element_member_count m + k < r.stiffness.members = omega (arith, realised.all_members, members, among) in
+    holds (pos 1000) (pos (2 ^ 40)) (omega arith) (omega arith) (bounds_at loads k) (force_fraction r.stiffness.denominator (force_in r exact (element_member_count m + k))) (within.load k inside)
+
+-- the lines of an answer are the text of its case
+answer_told : PrintedHolds → ElementsHaveEightMembers → (m : Lists) (case : ℕ) (a : CaseAnswer) → HasAnchorsAlone m → HoldsAlways m case a
+    → IsCaseText m case (answer_lines m (case_at m case) a)
+answer_told holds eight m case (Certified u loads states) anchors always =
+    let last = restraint_lines m.restraints loads in
+    certified (node_lines m.nodes u ++ last) (
+      node_bounds u, last, refl, nodes_paired holds m case u loads always,
+      (restraint_bounds m.restraints loads, [], sym (append-nil last), restraints_paired holds eight m case u loads anchors always, refl),
+    )
+answer_told holds eight m case (Uncertified cause guess) anchors always = uncertified cause guess
+
+-- ---- the cases, one after another
+
+abbrev texts : Lists → List Case → List CaseAnswer → List (List (List Word))
+texts m [] answers = []
+texts m (c ∷ cases) [] = []
+texts m (c ∷ cases) (a ∷ answers) = answer_lines m c a ∷ texts m cases answers
+
+texts_joined : (m : Lists) (cases : List Case) (answers : List CaseAnswer) → case_lines m cases answers ≡ flat_map (λ lines. lines) (texts m cases answers)
+texts_joined m [] answers = refl
+texts_joined m (c ∷ cases) [] = refl
+texts_joined m (c ∷ cases) (a ∷ answers) = ap (λ rest. answer_lines m c a ++ rest) (texts_joined m cases answers)
+
+length-texts : (m : Lists) (cases : List Case) (answers : List CaseAnswer) → length answers ≡ length cases → length (texts m cases answers) ≡ length cases
+length-texts m [] answers same = refl
+length-texts m (c ∷ cases) [] same = absurd (omega (arith, same))
+length-texts m (c ∷ cases) (a ∷ answers) same = ap suc (length-texts m cases answers (omega (arith, same)))
+
+get_or-texts : (m : Lists) (cases : List Case) (answers : List CaseAnswer) (case : ℕ) (c : Case) (a : CaseAnswer) → length answers ≡ length cases → case < length cases
+    → get_or (texts m cases answers) case [] ≡ answer_lines m (get_or cases case c) (get_or answers case a)
+get_or-texts m [] answers case c a same inside = absurd (omega (arith, inside))
+get_or-texts m (x ∷ cases) [] case c a same inside = absurd (omega (arith, same))
+get_or-texts m (x ∷ cases) (y ∷ answers) zero c a same inside = refl
+get_or-texts m (x ∷ cases) (y ∷ answers) (suc case) c a same inside = get_or-texts m cases answers case c a (omega (arith, same)) (omega (arith, inside))
+
+-- the report of answers that hold tells what holds
+pub report_told : PrintedHolds → ElementsHaveEightMembers → (m : Lists) (answers : List CaseAnswer) (output : List ℕ) → HasAnchorsAlone m
+    → length answers ≡ length m.cases → HoldAlways m answers → output ≡ report_of m answers → IsReportText m output
+report_told holds eight m answers output anchors one_each always written =
+    let none : CaseAnswer = Uncertified causes.Turns [] in
+    record {
+      cases = texts m m.cases answers;
+      one_each = length-texts m m.cases answers one_each;
+      told = λ case inside.
+          let a = get_or answers case none in
+          let is = slice_get-get_or answers case none (omega (arith, one_each, inside)) in
+          rw (get_or-texts m m.cases answers case no_case none one_each inside) (answer_told holds eight m case a anchors (always case a is));
+      written = written ∙ ap (λ lines. flat_map line (head_lines m ++ lines ++ end_lines)) (texts_joined m m.cases answers);
+    }

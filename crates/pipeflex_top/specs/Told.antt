@@ -1,0 +1,72 @@
+-- What the lines of a report tell of every equilibrium: pairs of whole numbers between which each displacement and each load
+-- of a restraint lies, in the unit of the report. It speaks of the text alone, of no bounds that were computed.
+use Rattle.std.specs.Prelude.{◌≡◌, ℕ, ◌+◌, ◌*◌, ◌^◌, ◌<◌, List, [], ◌∷◌, ◌++◌, length, codes, slice_index_or, ℤ, pos}
+use Rattle.std.specs.List.{flat_map}
+use Rattle.case_run.specs.Certified.{element_member_count}
+use Rattle.case_run.specs.Equilibria.{OfEquilibria}
+use Rattle.flex_interval.specs.Fraction.{Fraction, Within, scaled}
+use Rattle.int_laws.specs.Matrices.{Vector}
+use Rattle.load_vectors.specs.Loads.{case_at}
+use Rattle.member_set.specs.Realisation.{Realisation, force_in, fraction, force_fraction}
+use Rattle.model_types.specs.Lists.{Lists}
+use Rattle.model_types.specs.declared.answers.Bounds.{Bounds}
+use Rattle.model_types.specs.declared.answers.Cause.{Cause}
+use Rattle.report.specs.Report.{Word, bounds_lines, candidate_lines, end_lines, head_lines, loads_before, loads_of, node_key, restraint_key, uncertified_words}
+use Rattle.report.specs.Rounding.{ends_of_pair}
+use Rattle.text_words.specs.Fields.{line}
+
+-- what a report bounds of a kind of record: how many records there are, what stands first in the line of each, how many pairs
+-- follow, and the exact number of each pair in the unit of the report
+pub record Kind : Type 0 where
+  pub count : ℕ
+  pub key : ℕ → List Word
+  pub pairs : ℕ → ℕ
+  pub number : Realisation → Vector → ℕ → ℕ → Fraction
+
+-- the six displacements of each node, in nanometres and nanoradians
+abbrev pub node_displacements : Lists → Kind
+node_displacements m = record {
+  count = length m.nodes;
+  key = node_key m.nodes;
+  pairs = λ n. 6;
+  number = λ r exact n f. scaled (fraction (exact (6 * n + f)) r.stiffness.denominator) (pos (10 ^ 9)) (pos (2 ^ 56));
+}
+
+-- the loads of each restraint, in mN and mN m
+abbrev pub restraint_loads : Lists → Kind
+restraint_loads m = record {
+  count = length m.restraints;
+  key = restraint_key m.restraints;
+  pairs = loads_of m.restraints;
+  number = λ r exact n f. scaled (force_fraction r.stiffness.denominator (force_in r exact (element_member_count m + (loads_before m.restraints n + f)))) (pos 1000) (pos (2 ^ 40));
+}
+
+-- the kinds of record that a certified case tells of, in their order
+abbrev pub kinds : Lists → List Kind
+kinds m = node_displacements m ∷ restraint_loads m ∷ []
+
+-- each number of a kind is within its pair, in every equilibrium of every realisation under the loads of the case
+abbrev pub ArePaired : Lists → ℕ → Kind → (ℕ → ℕ → Bounds) → Type 0
+ArePaired m case k pair =
+    OfEquilibria m case (λ r exact. (n f : ℕ) → n < k.count → f < k.pairs n → Within (ends_of_pair (pair n f)) (k.number r exact n f))
+
+-- the lines are those of the kinds, one kind after another: a line for each record, with pairs that hold its numbers
+abbrev pub AreTold : Lists → ℕ → List Kind → List (List Word) → Type 0
+AreTold m case [] lines = lines ≡ []
+AreTold m case (k ∷ others) lines =
+    (pair : ℕ → ℕ → Bounds) × (rest : List (List Word)) × (lines ≡ bounds_lines k.count k.key k.pairs pair ++ rest)
+    × ArePaired m case k pair × AreTold m case others rest
+
+-- the lines of a case: that it is certified, and what is told of its equilibria; or that it is not, with a cause
+pub data IsCaseText (m : Lists) (case : ℕ) : List (List Word) → Type 0 where
+  certified : (lines : List (List Word)) → AreTold m case (kinds m) lines
+      → IsCaseText m case ((codes "case" ∷ (case_at m case).name ∷ codes "certified" ∷ []) ∷ lines)
+  uncertified : (cause : Cause) (guess : List ℤ)
+      → IsCaseText m case (uncertified_words m (case_at m case) cause ∷ candidate_lines m cause guess)
+
+-- the bytes are a report of the model: its head, the lines of each case, and the end
+pub record IsReportText (m : Lists) (output : List ℕ) : Type 0 where
+  pub cases : List (List (List Word))
+  pub one_each : length cases ≡ length m.cases
+  pub told : (case : ℕ) → case < length m.cases → IsCaseText m case (slice_index_or cases case [])
+  pub written : output ≡ flat_map line (head_lines m ++ flat_map (λ lines. lines) cases ++ end_lines)
