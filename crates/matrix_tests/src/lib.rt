@@ -13,3 +13,5 @@ mod makers;
 mod orders;
 #[cfg(test)]
 mod refinement;
+#[cfg(test)]
+mod search;

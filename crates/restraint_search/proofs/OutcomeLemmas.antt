@@ -1,8 +1,8 @@
 -- A search has one outcome.
-use Rattle.std.proofs.Common.{◌≡◌, ℕ, suc, ◌<◌, List, Bool, refl, sym, ap, subst, ◌∙◌, arith}
+use Rattle.std.proofs.Common.{◌≡◌, ℕ, suc, List, Bool, refl, sym, ap, subst, ◌∙◌, arith}
 use Rattle.restraint_search.specs.declared.trial.TrialFault.{TrialFault}
-use Rattle.restraint_search.specs.Trials.{Finding, Failing, SomeViolated, NoneViolated}
-use Rattle.restraint_search.specs.Outcomes.{EndsAt, RunsOut, FailsIn}
+use Rattle.restraint_search.specs.Trials.{Finding, Failing, SomeViolated}
+use Rattle.restraint_search.specs.Outcomes.{EndsAt, FailsIn}
 use Rattle.restraint_search.specs.Determined.{IsDecided, Outcome, ends_at, runs_out, fails_in, IsOutcome}
 use Rattle.restraint_search.proofs.TurnsLemmas.{Stops, stops_before, stops_once}
 

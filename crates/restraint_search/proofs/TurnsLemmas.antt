@@ -1,8 +1,8 @@
 -- One turn more, and that the turns are determined.
-use Rattle.std.proofs.Common.{◌≡◌, ℕ, zero, suc, ◌+◌, ◌-◌, ◌<◌, ◌≤◌, ◌⊎◌, inl, inr, List, Bool, true, false, true≢false, not, length, get_or, refl, sym, ap, subst, ◌∙◌, arith}
+use Rattle.std.proofs.Common.{◌≡◌, ℕ, zero, suc, ◌+◌, ◌-◌, ◌<◌, ◌≤◌, inl, inr, List, Bool, true, false, true≢false, length, get_or, refl, sym, subst, ◌∙◌, arith}
 use Rattle.std.proofs.lemmas.Bool.{cases_lt}
 use Rattle.std.proofs.lemmas.List.{ext_get_or}
-use Rattle.restraint_search.specs.Trials.{Finding, Failing, IsViolated, SomeViolated}
+use Rattle.restraint_search.specs.Trials.{Finding, Failing, SomeViolated}
 use Rattle.restraint_search.specs.Turns.{Flips, Follows, AfterTurns}
 use Rattle.restraint_search.specs.Determined.{IsDecided}
 
@@ -25,10 +25,10 @@ stable false false not_other = refl
 pub follows_once : (turn : ℕ) (violated before s t : List Bool) → Follows turn violated before s → Follows turn violated before t → s ≡ t
 follows_once turn violated before s t one other =
     ext_get_or false s t (one.count ∙ sym other.count) (λ k below.
-        let inside : k < length before = omega (arith, one.count) in
-        stable (get_or s k false) (get_or t k false) (λ differ.
-            let kept : Flips turn violated k → ⊥ = λ flips. differ (one.flipped k inside flips ∙ sym (other.flipped k inside flips)) in
-            differ (one.kept k inside kept ∙ sym (other.kept k inside kept))))
+    let inside : k < length before = omega (arith, one.count) in
+    stable (get_or s k false) (get_or t k false) (λ differ.
+    let kept : Flips turn violated k → ⊥ = λ flips. differ (one.flipped k inside flips ∙ sym (other.flipped k inside flips)) in
+    differ (one.kept k inside kept ∙ sym (other.kept k inside kept))))
 
 pub after_once : (finds : Finding) (fails : Failing) (start : List Bool) (n : ℕ) (s t : List Bool) → IsDecided finds fails → AfterTurns finds start n s → AfterTurns finds start n t → s ≡ t
 after_once finds fails start zero s t decided one other = one ∙ sym other

@@ -1,6 +1,7 @@
 //! What the search asks of the mechanics.
 ghost use Rattle.std.specs.Prelude.{◌≡◌, ◌↔◌, ℕ, List, Bool, length, IfOk, Err};
 
+use std::alloc::AllocError;
 use thiserror::Error;
 
 /// Why nothing can be told of some states.
@@ -21,6 +22,18 @@ pub enum TrialFault {
     /// Memory ran out.
     #[error("out of memory")]
     NoMemory,
+}
+
+impl From<AllocError> for TrialFault {
+    ghost use Rattle.std.specs.Prelude.{◌≡◌};
+    ghost use Rattle.restraint_search.specs.declared.trial.TrialFault.{TrialFault};
+    ghost use Rattle.restraint_search.specs.declared.trial.TrialFault.TheVariants as faults;
+
+    ghost from_gives = { λ _ fault. fault ≡ faults.NoMemory };
+
+    fn from(_error: AllocError) -> TrialFault {
+        TrialFault::NoMemory
+    }
 }
 
 /// Tells which of some states are violated. A state is `true` where its restraint is closed. Want of memory aside, what is told

@@ -1,6 +1,6 @@
-use Rattle.std.proofs.Common.{◌≡◌, ◌-◌, ◌++◌, drop, length, take, take_at, sym, ◌∙◌, ap, subst, refl, arith}
+use Rattle.std.proofs.Common.{◌-◌, drop, length, take_at, ◌∙◌, arith}
 use Rattle.restraint_search.specs.Trials.{SomeViolated}
-use Rattle.restraint_search.specs.Turns.{Follows, AfterTurns}
+use Rattle.restraint_search.specs.Turns.{Follows}
 use Rattle.restraint_search.proofs.TurnsLemmas.{after_turn}
 use Rattle.restraint_search.proofs.turns.search.Goals as goal
 

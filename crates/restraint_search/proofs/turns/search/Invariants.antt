@@ -1,4 +1,4 @@
-use Rattle.std.proofs.Common.{◌≡◌, ◌-◌, ◌≤◌, ◌↔◌, ℕ, List, Bool, length, vec_items}
+use Rattle.std.proofs.Common.{◌≡◌, ◌-◌, ◌↔◌, List, Bool, length, vec_items}
 use Rattle.restraint_search.specs.declared.trial.TrialFault.{TrialFault}
 use Rattle.restraint_search.specs.Turns.{AfterTurns}
 use Rattle.restraint_search.proofs.turns.search.Given as goal
