@@ -1,6 +1,6 @@
 -- What lies within the bounds of a case lies within its printed bounds.
 use Rattle.std.proofs.Common.{ℕ, ◌+◌, ◌^◌, List, pos, arith}
-use Rattle.case_run.specs.Certified.{element_member_count}
+use Rattle.structure.specs.Elements.{element_member_count}
 use Rattle.case_run.specs.Equilibria.{AreWithin, HoldsAlways, HoldAlways}
 use Rattle.member_set.specs.Realisation.{Realisation, force_in, fraction, force_fraction}
 use Rattle.int_laws.specs.Matrices.{Vector}

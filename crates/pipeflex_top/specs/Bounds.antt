@@ -1,6 +1,7 @@
 -- That every exact equilibrium lies in the printed bounds of a certified case.
 use Rattle.std.specs.Prelude.{◌≡◌, ℕ, ◌+◌, ◌^◌, ◌<◌, ⊤, List, slice_get, slice_index_or, Some, pos}
-use Rattle.case_run.specs.Certified.{bounds_of, element_member_count}
+use Rattle.case_run.specs.Certified.{bounds_of}
+use Rattle.structure.specs.Elements.{element_member_count}
 use Rattle.case_run.specs.Equilibria.{OfEquilibria}
 use Rattle.flex_interval.specs.Fraction.{Fraction, Within, scaled}
 use Rattle.member_set.specs.Members.{nothing}
