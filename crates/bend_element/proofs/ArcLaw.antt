@@ -60,7 +60,7 @@ unfolding radius
 radius_reads x = reads_scaled (pos (2 ^ 56)) (pos (10 ^ 6)) (omega (arith, ints)) (reads_whole x.radius)
 
 -- two readings of one number
-both_read : {x : Fraction} {n q m r : ℤ} → Reads x n q → Reads x m r → n *ℤ r ≡ m *ℤ q
+pub both_read : {x : Fraction} {n q m r : ℤ} → Reads x n q → Reads x m r → n *ℤ r ≡ m *ℤ q
 both_read {x} {n} {q} {m} {r} a b =
     same_of_mul x.den (n *ℤ r) (m *ℤ q) a.defined
     (mul_right_comm n r x.den ∙ ap (λ (z : ℤ). z *ℤ r) (sym a.same) ∙ mul_right_comm x.num q r ∙ ap (λ (z : ℤ). z *ℤ q) b.same ∙ mul_right_comm m x.den q)

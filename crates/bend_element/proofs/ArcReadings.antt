@@ -33,6 +33,15 @@ reads_same {x} {y} {n} {q} a b = record {
       (mul_right_comm x.num y.den q ∙ ap (λ z. z *ℤ y.den) a.same ∙ mul_right_comm n x.den y.den ∙ ap (λ z. z *ℤ x.den) (sym b.same) ∙ mul_right_comm y.num q x.den);
 }
 
+-- a number reads as one that is the same
+pub reads_from_same : {x y : Fraction} {n q : ℤ} → AreSame x y → pos 0 <ℤ x.den → Reads y n q → Reads x n q
+reads_from_same {x} {y} {n} {q} even defined a = record {
+  defined = defined;
+  positive = a.positive;
+  same = same_of_mul y.den (x.num *ℤ q) (n *ℤ x.den) a.defined
+      (mul_right_comm x.num q y.den ∙ ap (λ z. z *ℤ q) even.same ∙ mul_right_comm y.num x.den q ∙ ap (λ z. z *ℤ x.den) a.same ∙ mul_right_comm n y.den x.den);
+}
+
 pub reads_negated : {x : Fraction} {n q : ℤ} → Reads x n q → Reads (negated x) (neg_ℤ n) q
 unfolding negated
 reads_negated {x} {n} {q} a = record {

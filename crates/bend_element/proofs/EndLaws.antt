@@ -2,7 +2,7 @@
 use Rattle.std.proofs.Common.{◌≡◌, ◌^◌, [], ◌∷◌, List, ℕ, refl, ap, sym, ◌∙◌, arith, true, ℤ, pos, ◌+ℤ◌, ◌*ℤ◌, ◌<ℤ◌}
 use Rattle.std.proofs.lemmas.Int.{ints}
 use Rattle.int_laws.proofs.Sums.{int_sums}
-use Rattle.int_laws.proofs.Products.{mul_comm, zero-mul, mul_right_comm, mul_positive, same_of_mul}
+use Rattle.int_laws.proofs.Products.{mul_comm, zero-mul, mul_positive}
 use Rattle.flex_interval.specs.Fraction.{Fraction, times, minus}
 use Rattle.member_pairs.specs.Axes.{Axis, x_axis, y_axis, z_axis, Motion, translation, rotation, to_end}
 use Rattle.member_pairs.specs.declared.tube.Tube.{Tube}
@@ -11,18 +11,9 @@ use Rattle.bend_element.specs.Arcs.{ExactArc}
 use Rattle.bend_element.specs.EndLoads.{Load, force_along, moment_about, chordwise, sidewise, crosswise, half_chord, of_modes, carried, over_modes, load_at_to, IsFrame, MembersGiveAsArc, MembersCarryLoad}
 use Rattle.bend_element.specs.ExactBend.{Mode, plane_rotation, radial_force, chord_force, radius_moment, chord_moment, normal_force, flexibility, plane_centre, normal_centre, ExactFrame, side, shape_of}
 use Rattle.bend_element.proofs.ArcLaw.{Common, parts_read, numbers_read, numbers, itself, joined, alone, square, to_fourth, unit_reads, each_gives, balanced, plane_law, normal_law, plane_centre_defined, normal_centre_defined, plus_defined, negated_defined, times_defined}
-use Rattle.bend_element.proofs.ArcReadings.{Reads, reads_at, reads_same, reads_negated, reads_times, reads_plus, reads_minus}
+use Rattle.bend_element.proofs.ArcReadings.{Reads, reads_at, reads_same, reads_from_same, reads_negated, reads_times, reads_plus, reads_minus}
 use Rattle.bend_element.proofs.ArcWork.{AreRead, at, nil_reads, numerators, load_numerators, load_work_reads, sum, with_excesses, by_balance, none, twice, vE, vH, vF, vK, vP, vQ, vD, vU}
 use Rattle.bend_element.proofs.Polynomials.{Polynomial, variable, opposite, added, multiplied, value, of_list, terms, cancels, same_value}
-
--- a number reads as one that is the same
-reads_from_same : {x y : Fraction} {n q : ℤ} → AreSame x y → pos 0 <ℤ x.den → Reads y n q → Reads x n q
-reads_from_same {x} {y} {n} {q} even defined a = record {
-  defined = defined;
-  positive = a.positive;
-  same = same_of_mul y.den (x.num *ℤ q) (n *ℤ x.den) a.defined
-      (mul_right_comm x.num q y.den ∙ ap (λ z. z *ℤ q) even.same ∙ mul_right_comm y.num x.den q ∙ ap (λ z. z *ℤ x.den) a.same ∙ mul_right_comm n y.den x.den);
-}
 
 plus_nothing : (a : ℤ) → a +ℤ pos 0 ≡ a
 plus_nothing a = omega (arith, int_sums)

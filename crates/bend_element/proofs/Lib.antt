@@ -4,4 +4,5 @@ pub mod ArcReadings
 pub mod ArcWork
 pub mod ArcLaw
 pub mod EndLaws
+pub mod EndBalance
 pub mod NormalLemmas

@@ -1,8 +1,8 @@
 -- A unit load at TO of a bend that is held at FROM: how the arc carries it, and how the six members do.
 use Rattle.std.specs.Prelude.{pos, ◌<ℤ◌}
-use Rattle.flex_interval.specs.Fraction.{Fraction, negated, times, plus}
-use Rattle.member_pairs.specs.Axes.{Axis, Motion, translation, rotation, to_end}
-use Rattle.member_pairs.specs.Vectors.{Exact}
+use Rattle.flex_interval.specs.Fraction.{Fraction, negated, scaled, times, plus}
+use Rattle.member_pairs.specs.Axes.{Axis, x_axis, y_axis, z_axis, Motion, translation, rotation, from_end, to_end}
+use Rattle.member_pairs.specs.Vectors.{Exact, cross}
 use Rattle.member_pairs.specs.declared.tube.Tube.{Tube}
 use Rattle.bend_element.specs.Arc.{Pattern, nil, unit, no_course, radius, work, AreSame, IsDivisible}
 use Rattle.bend_element.specs.Arcs.{ExactArc}
@@ -94,3 +94,25 @@ abbrev pub MembersCarryLoad : Type 0
 MembersCarryLoad =
     (tube : Tube) (x : ExactArc) → IsDivisible tube x → (f : ExactFrame) → IsFrame f → (p : Load) (m : Motion) (i : Axis) →
     AreSame (over_modes (λ mode. times (carried tube x f.half p mode) (shape_of tube x f mode to_end m i) 56)) (load_at_to f p m i)
+
+-- c . c and the like, in 2^-56
+abbrev pub dot : Exact → Exact → Fraction
+dot u v = plus (plus (times (u x_axis) (v x_axis) 56) (times (u y_axis) (v y_axis) 56)) (times (u z_axis) (v z_axis) 56)
+
+-- the chord's unit vector has the length 1, and lies in the plane
+pub record IsUpright (f : ExactFrame) : Type 0 where
+  pub frame : IsFrame f
+  pub one : AreSame (dot f.chord f.chord) unit
+  pub in_plane : AreSame (dot f.chord f.normal) nil
+
+-- from FROM to TO
+abbrev pub whole_chord : ExactFrame → Exact
+whole_chord f j = scaled (times f.half (f.chord j) 56) (pos 2) (pos 1)
+
+-- what a member does at its ends is in balance: its forces, and its moments about FROM
+pub record InBalance (tube : Tube) (x : ExactArc) (f : ExactFrame) (mode : Mode) (i : Axis) : Type 0 where
+  pub forces : AreSame (plus (shape_of tube x f mode from_end translation i) (shape_of tube x f mode to_end translation i)) nil
+  pub moments : AreSame (plus (plus (shape_of tube x f mode from_end rotation i) (shape_of tube x f mode to_end rotation i)) (cross (whole_chord f) (shape_of tube x f mode to_end translation) i)) nil
+
+abbrev pub MembersBalance : Type 0
+MembersBalance = (tube : Tube) (x : ExactArc) → IsDivisible tube x → (f : ExactFrame) → IsUpright f → (mode : Mode) (i : Axis) → InBalance tube x f mode i

@@ -1,5 +1,5 @@
 ghost use Rattle.bend_element.specs.Arc.{PatternsWorkApart};
-ghost use Rattle.bend_element.specs.EndLoads.{MembersCarryLoad, MembersGiveAsArc};
+ghost use Rattle.bend_element.specs.EndLoads.{MembersBalance, MembersCarryLoad, MembersGiveAsArc};
 
 /// Of Castigliano's theorem along a bend's arc: no two of the six patterns of load work on each other, each gives by the
 /// flexibility of its member, and the elastic centres lie where the patterns have them.
@@ -7,9 +7,10 @@ pub fn patterns_work_apart()
     ensures { PatternsWorkApart }
 {}
 
-/// The six members of a bend are its arc: what they carry of a load at TO is that load, and the flexibility of the end that they
-/// add up to is the arc's, entry by entry.
+/// The six members of a bend are its arc: each is in balance at its two ends, what they carry of a load at TO is that load, and
+/// the flexibility of the end that they add up to is the arc's, entry by entry.
 pub fn members_are_arc()
+    ensures balance { MembersBalance }
     ensures carry { MembersCarryLoad }
     ensures give { MembersGiveAsArc }
 {}

@@ -19,10 +19,11 @@ use Rattle.lists.specs.Order.{IsOrder}
 use Rattle.solve.specs.Refinement.{problem, LeadTo, IsTooWide}
 use Rattle.certificate.specs.declared.bounds.Enclosure.{Enclosure}
 use Rattle.certificate.specs.Bounds.{sum_of_squares, displacement_radius, force_radius, HasBounds, AreBounds, HasNoBounds, no_residual, long, far, unsteady}
+use Rattle.structure.specs.Elements.{element_member_count}
 use Rattle.structure.specs.Structure.{IsStructureOf}
 use Rattle.load_vectors.specs.Loads.{AreLoads}
 use Rattle.case_run.specs.Causes.{Plan, resting_laws, IsFactorAt, IsMatrixCause, refinement}
-use Rattle.case_run.specs.Certified.{bounds_of, element_member_count, IsCertifiable, IsModelCause, no_structure, no_matrices, no_margin, HasCandidate, IsEnclosureOf, residual, IsOwnCause, no_loads, no_unshifted_factor, no_candidate, no_bounds, IsCertified, IsUncertified, by_model, by_case, IsCaseAnswer}
+use Rattle.case_run.specs.Certified.{bounds_of, IsCertifiable, IsModelCause, no_structure, no_matrices, no_margin, HasCandidate, IsEnclosureOf, residual, IsOwnCause, no_loads, no_unshifted_factor, no_candidate, no_bounds, IsCertified, IsUncertified, by_model, by_case, IsCaseAnswer}
 use Rattle.case_run.specs.Determined.{AnswersAreDetermined}
 use Rattle.case_run.proofs.SameSolutions.{AreAlike, AreAlikeFactors, lead-same, candidate-excludes}
 use Rattle.case_run.proofs.SameStructures.{structure-one, element-excludes, element-one, middles-alike, radii-alike, not_both, matrix-excludes, matrix_cause-one, loads-one, load-excludes, load_cause-one}

@@ -13,7 +13,8 @@ use Rattle.model_types.specs.declared.answers.CaseAnswer.TheVariants.{Certified,
 use Rattle.certificate.specs.declared.bounds.Enclosure.{Enclosure}
 use Rattle.certificate.specs.Bounds.{EnclosesEquilibrium}
 use Rattle.case_run.specs.Causes.{Plan}
-use Rattle.case_run.specs.Certified.{IsCertified, IsCaseAnswer, TellsBounds, bounds_of, element_member_count}
+use Rattle.structure.specs.Elements.{element_member_count}
+use Rattle.case_run.specs.Certified.{IsCertified, IsCaseAnswer, TellsBounds, bounds_of}
 use Rattle.case_run.specs.Equilibria.{AreWithin, OfEquilibria, HoldsAlways, ends_of, ends_at}
 
 pub told_answer : (m : Lists) (case : ℕ) (p : Plan) (e : Enclosure) (a : CaseAnswer) →

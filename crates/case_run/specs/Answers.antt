@@ -22,7 +22,8 @@ use Rattle.certificate.specs.declared.bounds.Enclosure.{Enclosure}
 use Rattle.certificate.specs.Checker.{test_by, margin_by}
 use Rattle.certificate.specs.Bounds.{bounds_around}
 use Rattle.case_run.specs.Causes.{Plan, at_row, resting_laws, width_matrix, width_load}
-use Rattle.case_run.specs.Certified.{shift_of, last_place, margin_cause, bounds_of, element_member_count}
+use Rattle.case_run.specs.Certified.{shift_of, last_place, margin_cause, bounds_of}
+use Rattle.structure.specs.Elements.{element_member_count}
 
 -- ---- reasons
 

@@ -16,6 +16,7 @@ use Rattle.certificate.specs.declared.bounds.Enclosure.{Enclosure}
 use Rattle.certificate.specs.declared.check.Verdict.TheVariants.{Yes, No}
 use Rattle.certificate.specs.Checker.{test_of, IsVerdict}
 use Rattle.certificate.specs.Bounds.{AreBounds, HasNoBounds}
+use Rattle.structure.specs.Elements.{element_member_count}
 use Rattle.structure.specs.Structure.{IsStructureOf}
 use Rattle.load_vectors.specs.Loads.{AreLoads}
 use Rattle.case_run.specs.Causes.{Plan, at_row, resting_laws, IsFactorAt, IsElementCause, IsMatrixCause, IsLoadCause, IsBreakdownCause, IsSolveCause}
@@ -125,10 +126,6 @@ pub data IsUncertified (m : Lists) (case : ℕ) (p : Plan) (cause : Cause) : Typ
 
 abbrev pub bounds_of : Ends → Bounds
 bounds_of e = record { lo = e.lo; hi = e.hi }
-
--- how many members the elements have, before those of the restraints
-abbrev pub element_member_count : Lists → ℕ
-element_member_count m = 8 * length m.elements
 
 -- the answer tells the bounds of each displacement, and of the force of each member from `first` on
 abbrev pub TellsBounds : ℕ → Enclosure → CaseAnswer → Type 0

@@ -10,10 +10,11 @@ use Rattle.model_types.specs.Lists.{Lists}
 use Rattle.model_types.specs.declared.answers.Bounds.{Bounds}
 use Rattle.model_types.specs.declared.answers.CaseAnswer.{CaseAnswer}
 use Rattle.model_types.specs.declared.answers.CaseAnswer.TheVariants.{Certified, Uncertified}
+use Rattle.structure.specs.Elements.{element_member_count}
 use Rattle.structure.specs.Structure.{IsStructureOf}
 use Rattle.load_vectors.specs.Loads.{AreLoads}
 use Rattle.case_run.specs.Causes.{resting_laws}
-use Rattle.case_run.specs.Certified.{bounds_of, element_member_count}
+use Rattle.case_run.specs.Certified.{bounds_of}
 
 abbrev pub ends_of : Bounds → Ends
 ends_of b = record { lo = b.lo; hi = b.hi }

@@ -1,6 +1,6 @@
 ghost use Rattle.std.specs.Prelude.{◌≡◌, ◌<◌, ℕ, length, map, drop, replicate, [], IfOk, IfErr, All};
 ghost use Rattle.case_run.specs.Causes.{plan, Plan};
-ghost use Rattle.case_run.specs.Certified.{IsCertified, IsUncertified, IsCaseAnswer, AreCaseAnswers, TellsBounds, bounds_of, element_member_count};
+ghost use Rattle.case_run.specs.Certified.{IsCertified, IsUncertified, IsCaseAnswer, AreCaseAnswers, TellsBounds, bounds_of};
 ghost use Rattle.case_run.specs.Equilibria.{OfEquilibria, HoldsAlways, HoldAlways};
 ghost use Rattle.case_run.specs.Shared.{IsReady, IsShared};
 ghost use Rattle.case_run.specs.Steps.{Names};
@@ -9,6 +9,7 @@ ghost use Rattle.elimination.specs.Elimination.{AreParents};
 ghost use Rattle.lists.specs.Order.{IsOrder};
 ghost use Rattle.load_vectors.specs.Loads.{HasForcesAlone, case_at};
 ghost use Rattle.structure.specs.Anchors.{HasAnchorsAlone};
+ghost use Rattle.structure.specs.Elements.{element_member_count};
 
 use crate::fault::CaseFault;
 use crate::shared::{Shared, share};
@@ -18,6 +19,7 @@ use load_vectors::loads;
 use model_types::{Bounds, CaseAnswer, CaseId, Cause, Model, NoMemory, Sequence};
 use solve::candidate;
 use std::alloc::{AllocError, Global};
+use structure::element_member_count;
 
 /// The answer of each case of a model in whose cases nothing but forces acts: certified bounds, or the first cause why there
 /// are none. The nodes are eliminated in `order`, and `parents` has the parent of each of its places.
@@ -86,7 +88,7 @@ fn case_answer(
     ensures holds { IfOk result (HoldsAlways m.now case.0) }
 {
     match enclosure_of(alloc, m, case, shared) {
-        Ok(e) => certified(alloc, &e, 8 * m.elements().len()),
+        Ok(e) => certified(alloc, &e, element_member_count(m)),
         Err(CaseFault::Because(cause)) => Ok(uncertified(alloc, cause)),
         Err(CaseFault::NoMemory) => Err(AllocError),
     }

@@ -36,29 +36,30 @@ use Rattle.bound_laws.specs.Definiteness.{PassedTestIsProof}
 use Rattle.structure.specs.Anchors.{IsAnchor, kind_members, restraint_members}
 use Rattle.structure.specs.Elements.{element_at, members_of_element}
 use Rattle.structure.specs.Structure.{Members, element_members, model_members, with_element, then_members}
-use Rattle.structure.specs.Elements.{ElementsHaveEightMembers}
+use Rattle.structure.specs.Elements.{ElementsHaveTheirMembers, element_member_count, member_count, member_count_below}
 use Rattle.report.specs.Fits.{AreAnswersOf, AreModest, FitsModel, IsModest}
 use Rattle.report.specs.Report.{load_count, loads_count}
 use Rattle.case_run.specs.Causes.{Plan, resting_laws}
-use Rattle.case_run.specs.Certified.{AreCaseAnswers, IsCaseAnswer, IsCertified, ShiftPasses, TellsBounds, bounds_of, element_member_count, shift_of}
+use Rattle.case_run.specs.Certified.{AreCaseAnswers, IsCaseAnswer, IsCertified, ShiftPasses, TellsBounds, bounds_of, shift_of}
 use Rattle.pipeflex_top.specs.Analysis.{text_order}
 use Rattle.pipeflex_top.specs.OneStraight.{IsOneStraight}
 use Rattle.pipeflex_top.proofs.Outcomes.{uncertified_inside}
 
 -- ---- how many members there are
 
--- eight more with each element
-with_eight : (before : Members) (n : ℕ) (made : Result (List Member) Wide) (members : List Member) → ((xs : List Member) → before ≡ Ok xs → length xs ≡ 8 * n)
-    → ((xs : List Member) → made ≡ Ok xs → length xs ≡ 8) → then_members before (with_element n made) ≡ Ok members → length members ≡ 8 * suc n
-with_eight (Ok xs) n (Ok more) members so_far eight is =
+-- more with each element
+with_more : (before : Members) (n : ℕ) (made : Result (List Member) Wide) (members : List Member) (a b : ℕ) → ((xs : List Member) → before ≡ Ok xs → length xs ≡ a)
+    → ((xs : List Member) → made ≡ Ok xs → length xs ≡ b) → then_members before (with_element n made) ≡ Ok members → length members ≡ a + b
+with_more (Ok xs) n (Ok more) members a b so_far count is =
     let same : xs ++ more ≡ members = cc in
-    omega (arith, ap length same, length-append xs more, so_far xs refl, eight more refl)
-with_eight (Ok xs) n (Err fault) members so_far eight is = absurd (cc)
-with_eight (Err number) n made members so_far eight is = absurd (cc)
+    omega (arith, ap length same, length-append xs more, so_far xs refl, count more refl)
+with_more (Ok xs) n (Err fault) members a b so_far count is = absurd (cc)
+with_more (Err number) n made members a b so_far count is = absurd (cc)
 
-elements_have : ElementsHaveEightMembers → (m : Lists) (n : ℕ) (members : List Member) → element_members m n ≡ Ok members → length members ≡ 8 * n
-elements_have eight m zero members is = let same : [] ≡ members = cc in ap length (sym same)
-elements_have eight m (suc n) members is = with_eight (element_members m n) n (members_of_element m (element_at m n)) members (elements_have eight m n) (eight m n) is
+elements_have : ElementsHaveTheirMembers → (m : Lists) (n : ℕ) (members : List Member) → element_members m n ≡ Ok members → length members ≡ member_count_below m n
+elements_have own m zero members is = let same : [] ≡ members = cc in ap length (sym same)
+elements_have own m (suc n) members is =
+    with_more (element_members m n) n (members_of_element m (element_at m n)) members (member_count_below m n) (member_count (element_at m n).shape) (elements_have own m n) (own m n) is
 
 with_rest : (made : Members) (rest members : List Member) (n : ℕ) → ((xs : List Member) → made ≡ Ok xs → length xs ≡ n)
     → then_members made (λ xs. Ok (xs ++ rest)) ≡ Ok members → length members ≡ n + length rest
@@ -78,12 +79,12 @@ anchors_have [] are = refl
 anchors_have (r ∷ restraints) (here, rest) =
     omega (arith, sum_by-cons (λ (x : Restraint). load_count x.kind) r restraints, length-append (restraint_members r) (flat_map restraint_members restraints), anchor_has r.node.0 r.kind here, anchors_have restraints rest)
 
-pub model_has : ElementsHaveEightMembers → (m : Lists) (members : List Member) → All (λ r. IsAnchor r.kind) m.restraints → model_members m ≡ Ok members
-    → length members ≡ 8 * length m.elements + loads_count m.restraints
+model_has : ElementsHaveTheirMembers → (m : Lists) (members : List Member) → All (λ r. IsAnchor r.kind) m.restraints → model_members m ≡ Ok members
+    → length members ≡ element_member_count m + loads_count m.restraints
 unfolding model_members
-model_has eight m members anchors is =
-    with_rest (element_members m (length m.elements)) (flat_map restraint_members m.restraints) members (8 * length m.elements) (elements_have eight m (length m.elements)) is
-    ∙ ap (λ n. 8 * length m.elements + n) (anchors_have m.restraints (recursion_from_All (λ (r : Restraint). IsAnchor r.kind) m.restraints anchors))
+model_has own m members anchors is =
+    with_rest (element_members m (length m.elements)) (flat_map restraint_members m.restraints) members (element_member_count m) (elements_have own m (length m.elements)) is
+    ∙ ap (λ n. element_member_count m + n) (anchors_have m.restraints (recursion_from_All (λ (r : Restraint). IsAnchor r.kind) m.restraints anchors))
 
 -- a margin is positive
 margin_up : PassedTestIsProof → (p : Plan) (middles radii : Matrix) (shift lambda : ℤ) → ShiftPasses p middles radii shift lambda → pos 1 ≤ℤ lambda
@@ -110,11 +111,11 @@ told_modest : (bounds : List Bounds) (es : List Ends) → bounds ≡ map bounds_
 told_modest bounds es same modest =
     All-same (λ (b : Bounds). IsModest b.lo × IsModest b.hi) bounds (map bounds_of es) same (All-map (λ (b : Bounds). IsModest b.lo × IsModest b.hi) bounds_of es modest)
 
-certified_fits : PassedTestIsProof → BoundsAreLimited → ElementsHaveEightMembers →
+certified_fits : PassedTestIsProof → BoundsAreLimited → ElementsHaveTheirMembers →
     (m : Lists) (case : ℕ) (u loads : List Bounds) (states : List Bool) (e : Enclosure) → All (λ r. IsAnchor r.kind) m.restraints → IsCertified m case text_order e
     → TellsBounds (element_member_count m) e (Certified u loads states)
     → (length u ≡ 6 * length m.nodes) × (length loads ≡ loads_count m.restraints) × AreModest u × AreModest loads
-certified_fits passed_test limits eight m case u loads states e anchors certified (displacements, forces, none) =
+certified_fits passed_test limits counts m case u loads states e anchors certified (displacements, forces, none) =
     let b = certified.b in
     let structure = certified.model.structure in
     let own = certified.enclosure in
@@ -124,22 +125,22 @@ certified_fits passed_test limits eight m case u loads states e anchors certifie
     let candidate = turned _ 7 own.u own.candidate.candidate in
     let first = element_member_count m in
     let limited = limits (system b (resting_laws b) own.loads) own.u certified.lambda e one candidate.0 candidate.1 bounds in
-    let members = model_has eight m b.members anchors structure.members in (
+    let members = model_has counts m b.members anchors structure.members in (
       omega (arith, ap length displacements, length-map e.u bounds_of, bounds.one_displacement_each, structure.nodes),
       omega (arith, ap length forces, length-map (drop first e.force) bounds_of, length-drop first e.force, bounds.one_force_each, members),
       told_modest u e.u displacements (limited_modest e.u limited.0),
       told_modest loads (drop first e.force) forces (All-drop HasModestEnds first e.force (limited_modest e.force limited.1)),
     )
 
-answer_fits : PassedTestIsProof → BoundsAreLimited → ElementsHaveEightMembers →
+answer_fits : PassedTestIsProof → BoundsAreLimited → ElementsHaveTheirMembers →
     (m : Lists) (case : ℕ) (a : CaseAnswer) → IsOneStraight m → IsCaseAnswer m case text_order a → FitsModel m a
-answer_fits passed_test limits eight m case (Certified u loads states) straight (e, certified, tells) = certified_fits passed_test limits eight m case u loads states e straight.anchors certified tells
-answer_fits passed_test limits eight m case (Uncertified cause guess) straight (uncertified, none) = (uncertified_inside m case cause straight.few.nodes uncertified, inl (ap length none))
+answer_fits passed_test limits counts m case (Certified u loads states) straight (e, certified, tells) = certified_fits passed_test limits counts m case u loads states e straight.anchors certified tells
+answer_fits passed_test limits counts m case (Uncertified cause guess) straight (uncertified, none) = (uncertified_inside m case cause straight.few.nodes uncertified, inl (ap length none))
 
 -- the answers of the cases of one straight are answers of its model
-pub answers_fit : PassedTestIsProof → BoundsAreLimited → ElementsHaveEightMembers →
+pub answers_fit : PassedTestIsProof → BoundsAreLimited → ElementsHaveTheirMembers →
     (m : Lists) (answers : List CaseAnswer) → IsOneStraight m → AreCaseAnswers m text_order answers → AreAnswersOf m answers
-answers_fit passed_test limits eight m answers straight are = record {
+answers_fit passed_test limits counts m answers straight are = record {
   one_each = are.one_each;
-  fit = λ case d inside. answer_fits passed_test limits eight m case (get_or answers case d) straight (are.answer case (get_or answers case d) (slice_get-get_or answers case d inside));
+  fit = λ case d inside. answer_fits passed_test limits counts m case (get_or answers case d) straight (are.answer case (get_or answers case d) (slice_get-get_or answers case d inside));
 }

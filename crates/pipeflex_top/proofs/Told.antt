@@ -4,7 +4,7 @@ use Rattle.std.proofs.lemmas.List.{get_or-map}
 use Rattle.std.proofs.lemmas.List.Sums.{sum_by_more_le}
 use Rattle.std.proofs.lemmas.Option.{slice_get-get_or}
 use Rattle.std.specs.List.{flat_map}
-use Rattle.case_run.specs.Certified.{element_member_count}
+use Rattle.structure.specs.Elements.{element_member_count}
 use Rattle.case_run.specs.Equilibria.{AreWithin, OfEquilibria, HoldsAlways, HoldAlways}
 use Rattle.load_vectors.specs.Loads.{case_at, no_case}
 use Rattle.member_set.specs.Realisation.{force_in, fraction, force_fraction}

@@ -2,7 +2,7 @@
 -- of a restraint lies, in the unit of the report. It speaks of the text alone, of no bounds that were computed.
 use Rattle.std.specs.Prelude.{◌≡◌, ℕ, ◌+◌, ◌*◌, ◌^◌, ◌<◌, List, [], ◌∷◌, ◌++◌, length, codes, slice_index_or, ℤ, pos}
 use Rattle.std.specs.List.{flat_map}
-use Rattle.case_run.specs.Certified.{element_member_count}
+use Rattle.structure.specs.Elements.{element_member_count}
 use Rattle.case_run.specs.Equilibria.{OfEquilibria}
 use Rattle.flex_interval.specs.Fraction.{Fraction, Within, scaled}
 use Rattle.int_laws.specs.Matrices.{Vector}

@@ -16,7 +16,7 @@ pub fn analysis(alloc: Global, model: &Model) -> Result<Written, NoMemory>
     ensures { IfOk result (λ written. IsReport model.now written.bytes.items written.status) }
 {
     // The laws by which the answers fit the model, and of what a printed pair holds.
-    structure::elements_have_eight_members();
+    structure::elements_have_their_members();
     bound_laws::passed_test_is_proof();
     certificate::bounds_are_limited();
     report::printed_pairs_hold();

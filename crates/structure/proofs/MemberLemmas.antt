@@ -1,5 +1,5 @@
 -- The members of a model's elements and restraints.
-use Rattle.std.proofs.Common.{◌≡◌, ℕ, zero, suc, ◌+◌, ◌^◌, ◌<◌, Bool, true, false, ◌&&◌, if◌then◌else◌, List, ◌++◌, length, get_or, All, inl, inr, sym, ap, subst, arith, add-one, ℤ, pos, ◌<ℤ◌, Result, Ok, Err}
+use Rattle.std.proofs.Common.{◌≡◌, ℕ, zero, suc, ◌+◌, ◌^◌, ◌<◌, Bool, true, false, ◌&&◌, if◌then◌else◌, List, ◌++◌, length, get_or, All, inl, inr, refl, sym, ◌∙◌, ap, subst, arith, add-one, ℤ, pos, ◌<ℤ◌, Result, Ok, Err}
 use Rattle.std.proofs.lemmas.Int.{ints}
 use Rattle.std.proofs.lemmas.Bool.{cases_eq}
 use Rattle.std.proofs.lemmas.List.{get_or_read}
@@ -23,7 +23,9 @@ use Rattle.pipe_element.specs.Rounded.{stiffness_of, shapes_of, are_stiffnesses,
 use Rattle.pipe_element.specs.Straight.{straight_of, limited, members_of as straight_members}
 use Rattle.pipe_element.specs.declared.shapes.Shapes.{Shapes}
 use Rattle.pipe_element.specs.declared.stiffness.Stiffness.{Stiffness}
-use Rattle.structure.specs.Elements.{members_of_element, element_at, no_element, from_of, to_of, section_of, material_of}
+use Rattle.model_types.specs.declared.records.Shape.{Shape}
+use Rattle.model_types.specs.declared.records.Shape.TheVariants.{Straight}
+use Rattle.structure.specs.Elements.{member_count, members_of_element, element_at, no_element, from_of, to_of, section_of, material_of}
 use Rattle.structure.specs.Sound.{IsSound}
 use Rattle.structure.specs.Structure.{element_members}
 
@@ -91,7 +93,10 @@ straight-count e a b s m members is =
     let w = or_wide-ok (shapes_of way l.0) (limited e k.0) members k.1 in
     limited-count e k.0 w.0 members w.1
 
-pub members-count : (m : Lists) (n : ℕ) (more : List Member) → members_of_element m (element_at m n) ≡ Ok more → length more ≡ 8
+shape-count : (s : Shape) → member_count s ≡ 8
+shape-count Straight = refl
+
+pub members-count : (m : Lists) (n : ℕ) (more : List Member) → members_of_element m (element_at m n) ≡ Ok more → length more ≡ member_count (element_at m n).shape
 members-count m n more is =
     let e = element_at m n in
-    straight-count e (from_of m e) (to_of m e) (section_of m e) (material_of m (section_of m e)) more is
+    straight-count e (from_of m e) (to_of m e) (section_of m e) (material_of m (section_of m e)) more is ∙ sym (shape-count e.shape)

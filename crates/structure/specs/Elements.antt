@@ -1,5 +1,5 @@
 -- The members of a model's elements.
-use Rattle.std.specs.Prelude.{ℕ, ◌≡◌, [], pos, List, length, Result, Ok}
+use Rattle.std.specs.Prelude.{ℕ, zero, suc, ◌+◌, ◌≡◌, [], pos, List, length, Result, Ok}
 use Rattle.std.specs.List.{slice_index_or}
 use Rattle.flex_interval.specs.declared.fault.Wide.{Wide}
 use Rattle.member_set.specs.declared.members.Member.{Member}
@@ -62,6 +62,15 @@ member_count Straight = 8
 abbrev pub members_of_element : Lists → Element → Result (List Member) Wide
 members_of_element m e = straight_of e (from_of m e) (to_of m e) (section_of m e) (material_of m (section_of m e))
 
--- an element has eight members
-abbrev pub ElementsHaveEightMembers : Type 0
-ElementsHaveEightMembers = (m : Lists) (n : ℕ) (members : List Member) → members_of_element m (element_at m n) ≡ Ok members → length members ≡ 8
+-- how many members the first n elements have
+abbrev pub member_count_below : Lists → ℕ → ℕ
+member_count_below m zero = 0
+member_count_below m (suc n) = member_count_below m n + member_count (element_at m n).shape
+
+-- how many members the elements have, before those of the restraints
+abbrev pub element_member_count : Lists → ℕ
+element_member_count m = member_count_below m (length m.elements)
+
+-- an element has as many members as its shape says
+abbrev pub ElementsHaveTheirMembers : Type 0
+ElementsHaveTheirMembers = (m : Lists) (n : ℕ) (members : List Member) → members_of_element m (element_at m n) ≡ Ok members → length members ≡ member_count (element_at m n).shape

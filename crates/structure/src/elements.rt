@@ -5,7 +5,7 @@ ghost use Rattle.model_types.specs.Rules.{Keeps};
 ghost use Rattle.model_types.specs.declared.records.Record.TheVariants as record_of;
 ghost use Rattle.section_data.specs.Tube.{IsTube};
 ghost use Rattle.member_pairs.specs.Pairs.{IsMemberOf};
-ghost use Rattle.structure.specs.Elements.{member_count, members_of_element, material_of, no_node, no_section};
+ghost use Rattle.structure.specs.Elements.{member_count, element_member_count, members_of_element, material_of, no_node, no_section};
 ghost use Rattle.structure.specs.Enclosure.{EnclosesElement};
 ghost use Rattle.structure.specs.Sound.{IsSound};
 ghost use Rattle.structure.specs.Structure.{element_members as all_of};
@@ -14,7 +14,7 @@ use crate::fault::BuildFault;
 use flex_interval::Wide;
 use member_pairs::ElementMembers;
 use member_set::Member;
-use model_types::{Element, ElementId, Material, Model, Node, NodeId, Section, SectionId};
+use model_types::{Element, ElementId, Material, Model, Node, NodeId, Section, SectionId, Shape};
 use pipe_element::straight;
 use std::alloc::Global;
 
@@ -61,6 +61,28 @@ fn material<'a>(model: &'a Model, section: &Section) -> &'a Material
 {
     let materials = model.materials();
     &materials[section.material.0 as usize]
+}
+
+/// How many members the elements of a model have, before those of its restraints.
+pub fn element_member_count(model: &Model) -> usize
+    ensures value { result ≡ element_member_count model.now }
+    ensures few { result ≤ 8 * length model.now.elements }
+{
+    let mut count = 0;
+    let elements = model.elements();
+    for number in 0..elements.len() {
+        count += member_count(&elements[number].shape);
+    }
+    count
+}
+
+fn member_count(shape: &Shape) -> usize
+    ensures value { result ≡ member_count shape.now }
+    ensures few { result ≤ 8 }
+{
+    match shape {
+        Shape::Straight => 8,
+    }
 }
 
 /// The members of a model's elements, in order, or the first element that leaves its limits.

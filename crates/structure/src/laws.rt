@@ -1,6 +1,6 @@
-ghost use Rattle.structure.specs.Elements.{ElementsHaveEightMembers};
+ghost use Rattle.structure.specs.Elements.{ElementsHaveTheirMembers};
 
-/// An element whose members are within their limits has eight of them.
-pub fn elements_have_eight_members()
-    ensures { ElementsHaveEightMembers }
+/// An element whose members are within their limits has as many of them as its shape says.
+pub fn elements_have_their_members()
+    ensures { ElementsHaveTheirMembers }
 {}

@@ -9,6 +9,6 @@ mod laws;
 mod touching;
 
 pub use building::build;
-pub use elements::element_members;
+pub use elements::{element_member_count, element_members};
 pub use fault::BuildFault;
-pub use laws::elements_have_eight_members;
+pub use laws::elements_have_their_members;

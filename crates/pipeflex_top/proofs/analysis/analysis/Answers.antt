@@ -14,7 +14,7 @@ pub bytes-requires : goal.bytes-requires
 bytes-requires c =
     let model = c.args.model.now in
     let found = c.in_ok-answers in
-    record { answers = subst (AreAnswersOf model) (sym c.deref-2.ensures.value) (answers_fit c.passed_test_is_proof.ensures c.bounds_are_limited.ensures c.elements_have_eight_members.ensures model found.answers.items c.requires found.ensures.answers) }
+    record { answers = subst (AreAnswersOf model) (sym c.deref-2.ensures.value) (answers_fit c.passed_test_is_proof.ensures c.bounds_are_limited.ensures c.elements_have_their_members.ensures model found.answers.items c.requires found.ensures.answers) }
 
 pub returns : goal.returns
 returns c =
