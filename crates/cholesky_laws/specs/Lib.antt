@@ -1,3 +1,4 @@
 pub mod Recurrence
 pub mod Breakdown
 pub mod Fill
+pub mod Laws
