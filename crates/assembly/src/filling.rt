@@ -88,8 +88,6 @@ fn put(matrix: &mut SymBlocks, row: u32, col: u32, v: i128)
     requires small { unsigned_abs v < 2 ^ 126 }
     ensures { PutsAt matrix.old matrix.new row col v }
 {
-    // What every matrix keeps: its entries are below 2^126.
-    let _nodes = matrix.pattern(row / 6);
     let change = v - matrix.get(row, col);
     matrix.add(row, col, change);
 }

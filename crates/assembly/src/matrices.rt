@@ -2,7 +2,7 @@ ghost use Rattle.std.specs.Prelude.{◌≡◌, ℕ, ◌<◌, [], length, IfOk, I
 ghost use Rattle.member_set.specs.declared.members.Law.{Law};
 ghost use Rattle.member_set.specs.Members.{IsBuilt, row_count};
 ghost use Rattle.member_set.specs.Realisation.{Stiffness, IsStiffnessOf, every_member, exact_entry, entry_unit};
-ghost use Rattle.sym_blocks.specs.Matrix.{entry};
+ghost use Rattle.sym_blocks.specs.Matrix.{entry, IsSymmetricByBlocks};
 ghost use Rattle.assembly.specs.Stiffness.{AreAssembled, NamesFirstWide, IsWithinRadius};
 
 use crate::fault::AssembleFault;
@@ -26,6 +26,7 @@ pub fn assemble(
         (i j : ℕ) → i < row_count b.now → j < row_count b.now →
         IsWithinRadius (entry_unit s.denominator) (exact_entry every_member s i j) (entry m.0 i j) (entry m.1 i j)) }
     ensures radii { IfOk result (λ m. (i j : ℕ) → i < row_count b.now → j < row_count b.now → pos 0 ≤ℤ entry m.1 i j) }
+    ensures kept { IfOk result (λ m. IsSymmetricByBlocks m.0 × IsSymmetricByBlocks m.1) }
     ensures fault { IfErr result (λ f. NamesFirstWide b.now f) }
 {
     let nodes = b.at.as_slice().len() as u32;

@@ -1,5 +1,4 @@
 pub mod Matrices
-pub mod Diagonal
 pub mod Faults
 pub mod Definite
 pub mod Sharing

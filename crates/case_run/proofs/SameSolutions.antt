@@ -1,6 +1,7 @@
 -- What is solved by factors with the same entries is the same, step by step of the refinement.
 use Rattle.std.proofs.Common.{◌≡◌, ℕ, zero, suc, ◌+◌, ◌-◌, ◌*◌, ◌^◌, ◌<◌, ◌≤◌, inl, inr, sym, ◌∙◌, ap, ap₂, subst, arith, List, length, ext_get_or, pow_pos, unsigned_abs, Result, Ok, Err, IsErr, All, ℤ, pos, ◌+ℤ◌, ◌-ℤ◌, ◌*ℤ◌, ◌≤ℤ◌, ◌<ℤ◌}
 use Rattle.std.proofs.Math.Nat.{mul-le-mul_left}
+use Rattle.std.proofs.lemmas.Bool.Decides.{nat_tests}
 use Rattle.std.proofs.lemmas.Bool.{cases_lt}
 use Rattle.std.proofs.lemmas.List.Elements.{All-get_or}
 use Rattle.int_laws.specs.Sums.{sum_below}
@@ -23,7 +24,6 @@ use Rattle.int_laws.specs.Matrices.{Entries, Vector, absolute}
 use Rattle.solve.specs.Numerators.{past}
 use Rattle.solve.specs.Refinement.{AreMiddles, HasNoResidual, HasNoRoom, forward_side, backward_side, IsMoved, MovesTooFar, problem, IsTurn, TurnBreaks, no_residual, no_room, forward_broad, backward_broad, too_far, LeadTo, IsTooWide, IsScaling}
 use Rattle.flex_interval.specs.Operations.{middle_of}
-use Rattle.solve.proofs.ColumnsTaken.{past-before}
 
 -- the same entries in the first n rows and columns
 abbrev pub AreAlike : ℕ → (ℕ → ℕ → ℤ) → (ℕ → ℕ → ℤ) → Type 0
@@ -80,6 +80,10 @@ forward-excludes n g h r s y alike sides one breaks =
     let broad : pos (2 ^ 126) ≤ℤ forward_size g r y k p = rw size breaks.broad in
     absurd (omega (arith, int_sums, more, narrow, broad))
 
+-- an unknown not past a position gives it nothing
+nothing_before : (k i : ℕ) (z : ℤ) → i ≤ k → past k i z ≡ pos 0
+nothing_before k i z le = grind (arith, nat_tests)
+
 -- ---- G^T z = s
 backward_sum-same : (n : ℕ) (g h : Entries) (y z : List ℤ) (k : ℕ) (w : ℤ → ℤ) → AreAlike n g h → k < n → ((i : ℕ) → k < i → i < n → at y i ≡ at z i) →
     sum_below n (λ i. past k i (w (g i k *ℤ at y i))) ≡ sum_below n (λ i. past k i (w (h i k *ℤ at z i)))
@@ -87,7 +91,7 @@ backward_sum-same n g h y z k w alike inside same =
     sum_below-same n (λ i. past k i (w (g i k *ℤ at y i))) (λ i. past k i (w (h i k *ℤ at z i)))
     (λ i l. elim (cases_lt k i) [
       | inl after ↦ ap₂ (λ (u v : ℤ). past k i (w (u *ℤ v))) (alike i k l inside) (same i after l)
-      | inr not_past ↦ past-before k i (w (g i k *ℤ at y i)) not_past ∙ sym (past-before k i (w (h i k *ℤ at z i)) not_past)
+      | inr not_past ↦ nothing_before k i (w (g i k *ℤ at y i)) not_past ∙ sym (nothing_before k i (w (h i k *ℤ at z i)) not_past)
     ])
 
 backward_from-same : (n : ℕ) (g h : Entries) (r s : Vector) (y z : List ℤ) (j m k : ℕ) → AreAlike n g h → AreSameSides n r s →

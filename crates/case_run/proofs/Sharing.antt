@@ -11,11 +11,11 @@ use Rattle.member_set.specs.Realisation.{Realisation, IsRealisation}
 use Rattle.model_types.specs.Lists.{Lists}
 use Rattle.model_types.specs.declared.answers.Cause.{Cause}
 use Rattle.sym_blocks.specs.Matrix.{Matrix}
-use Rattle.factor_data.specs.Columns.{ColumnLists}
 use Rattle.structure.specs.Structure.{IsStructureOf}
 use Rattle.load_vectors.specs.Loads.{AreLoads}
 use Rattle.case_run.specs.Causes.{Plan, resting_laws, IsFactorAt}
-use Rattle.case_run.specs.Steps.{HasDiagonal, IsFactorFor}
+use Rattle.factor_data.specs.Columns.{ColumnLists, HasDiagonal}
+use Rattle.case_run.specs.Steps.{IsFactorFor}
 
 pub factor_for : (b : Built) (p : Plan) (middles : Matrix) (shift : ℤ) (Q : Cause → Type 0) (r : Result ColumnLists Cause) →
     length p.order ≡ nodes_of b → MatchResult r (IsFactorAt p middles shift) Q → IfOk r HasDiagonal → IfOk r (IsFactorFor b)

@@ -2,8 +2,7 @@
 use Rattle.std.specs.Prelude.{◌≡◌, ℕ, ◌*◌, ◌^◌, ◌<◌, ◌≤◌, ⊤, List, length, Option, ℤ, pos, ◌-ℤ◌, ◌*ℤ◌, ◌≤ℤ◌, ◌<ℤ◌, unsigned_abs}
 use Rattle.model_types.specs.declared.answers.Cause.{Cause}
 use Rattle.sym_blocks.specs.Matrix.{Matrix, node_count, entry}
-use Rattle.factor_data.specs.Columns.{factor_entry}
-use Rattle.factor_data.specs.Columns.{ColumnLists}
+use Rattle.factor_data.specs.Columns.{ColumnLists, factor_entry, HasDiagonal}
 use Rattle.lists.specs.Order.{IsOrder}
 use Rattle.elimination.specs.Elimination.{AreParents}
 use Rattle.int_laws.specs.Matrices.{absolute}
@@ -22,10 +21,6 @@ Names IsCause faults.NoMemory = ⊤
 pub record IsFactorable (nodes : ℕ) (m : Matrix) : Type 0 where
   pub nodes_are : node_count m ≡ nodes
   pub small : (i j : ℕ) → unsigned_abs (entry m i j) < 2 ^ 60
-
--- the diagonal of a factor is positive
-abbrev pub HasDiagonal : ColumnLists → Type 0
-HasDiagonal f = (j : ℕ) → j < 6 * length f.order → pos 0 <ℤ factor_entry f j j
 
 -- an order of some nodes, and the parent of each of its places
 pub record IsPlan (order : List ℕ) (parents : List (Option ℕ)) : Type 0 where

@@ -2,7 +2,8 @@ ghost use Rattle.std.specs.Prelude.{◌≡◌, ◌<◌, length, IfOk, IfErr, Mat
 ghost use Rattle.case_run.specs.Causes.{plan, IsFactorAt, IsBreakdownCause};
 ghost use Rattle.case_run.specs.Certified.{IsModelCause};
 ghost use Rattle.case_run.specs.Shared.{IsReady, IsShared};
-ghost use Rattle.case_run.specs.Steps.{Names, IsFactorable, HasDiagonal, IsPlan};
+ghost use Rattle.factor_data.specs.Columns.{HasDiagonal};
+ghost use Rattle.case_run.specs.Steps.{Names, IsFactorable, IsPlan};
 ghost use Rattle.structure.specs.Anchors.{HasAnchorsAlone};
 
 use crate::fault::CaseFault;

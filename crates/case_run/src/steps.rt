@@ -6,7 +6,8 @@ ghost use Rattle.sym_blocks.specs.Matrix.{entry};
 ghost use Rattle.elimination.specs.Elimination.{AreParents};
 ghost use Rattle.lists.specs.Order.{IsOrder};
 ghost use Rattle.case_run.specs.Causes.{plan, resting_laws, IsFactorAt, IsMatrixCause, IsBreakdownCause};
-ghost use Rattle.case_run.specs.Steps.{Names, IsFactorable, HasDiagonal, IsRadiusMatrix};
+ghost use Rattle.factor_data.specs.Columns.{HasDiagonal};
+ghost use Rattle.case_run.specs.Steps.{Names, IsFactorable, IsRadiusMatrix};
 
 use crate::fault::CaseFault;
 use assembly::assemble;
@@ -31,9 +32,6 @@ pub(crate) fn matrices_of(alloc: Global, b: &Built) -> Result<(SymBlocks, SymBlo
 {
     laws_keep_stretch();
     let (middles, radii) = assemble(alloc, b, &[])?;
-    // What every matrix keeps: it is 0 outside its pattern.
-    let _middles_nodes = middles.pattern(0);
-    let _radii_nodes = radii.pattern(0);
     Ok((middles, radii))
 }
 

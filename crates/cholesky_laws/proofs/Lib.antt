@@ -2,5 +2,4 @@ pub mod RecurrenceLemmas
 pub mod PanelLemmas
 pub mod SubtreeLemmas
 pub mod BoundLemmas
-pub mod FillLemmas
 pub mod DeterminedLemmas

@@ -5,25 +5,19 @@ use Rattle.int_laws.proofs.Sums.{int_sums}
 use Rattle.int_laws.specs.Division.{nearest_of}
 use Rattle.int_laws.specs.Root.{root_of}
 use Rattle.cholesky_laws.specs.Recurrence.{cholesky, left_after, pivot}
+use Rattle.cholesky_laws.specs.Laws.{HoldsRemainder}
 use Rattle.cholesky_laws.proofs.RecurrenceLemmas.{cases_pivot, cholesky-broken, cholesky-above, cholesky-diagonal, cholesky-below, left_after-none, left_after-next}
-
--- w holds what is left of `a` after m columns, for the columns m to m + 5 and the rows that f names
-pub record IsPanel (a w : ℕ → ℕ → ℤ) (m rows : ℕ) (f : ℕ → ℕ) : Type 0 where
-  pub whole : 6 ≤ rows
-  pub left : (r c : ℕ) → r < rows → c < 6 → w r c ≡ left_after a m (f r) (m + c)
-  pub own : (c : ℕ) → c < 6 → f c ≡ m + c
-  pub later : (r : ℕ) → 6 ≤ r → r < rows → m + 6 ≤ f r
 
 -- the same after c more columns
 abbrev AgreesAfter : (a w : ℕ → ℕ → ℤ) (m rows : ℕ) (f : ℕ → ℕ) → ℕ → Type 0
 AgreesAfter a w m rows f c = (r k : ℕ) → r < rows → k < 6 → left_after w c r k ≡ left_after a (m + c) (f r) (m + k)
 
-same_pivot : {a w : ℕ → ℕ → ℤ} {m rows : ℕ} {f : ℕ → ℕ} (p : IsPanel a w m rows f) (c : ℕ) → c < 6 → AgreesAfter a w m rows f c → pivot w c ≡ pivot a (m + c)
+same_pivot : {a w : ℕ → ℕ → ℤ} {m rows : ℕ} {f : ℕ → ℕ} (p : HoldsRemainder a w m rows f) (c : ℕ) → c < 6 → AgreesAfter a w m rows f c → pivot w c ≡ pivot a (m + c)
 same_pivot {a} {w} {m} {rows} {f} p c lt same =
     let wide = p.whole in
     same c c (omega arith) lt ∙ ap (λ i. left_after a (m + c) i (m + c)) (p.own c lt)
 
-same_entry : {a w : ℕ → ℕ → ℤ} {m rows : ℕ} {f : ℕ → ℕ} (p : IsPanel a w m rows f) (r c : ℕ) → r < rows → c < 6 → AgreesAfter a w m rows f c → cholesky w r c ≡ cholesky a (f r) (m + c)
+same_entry : {a w : ℕ → ℕ → ℤ} {m rows : ℕ} {f : ℕ → ℕ} (p : HoldsRemainder a w m rows f) (r c : ℕ) → r < rows → c < 6 → AgreesAfter a w m rows f c → cholesky w r c ≡ cholesky a (f r) (m + c)
 same_entry {a} {w} {m} {rows} {f} p r c in' lt same =
     let pivots = same_pivot p c lt same in
     elim (cases_pivot (pivot a (m + c))) [
@@ -54,7 +48,7 @@ same_entry {a} {w} {m} {rows} {f} p r c in' lt same =
           ]
     ]
 
-agrees : {a w : ℕ → ℕ → ℤ} {m rows : ℕ} {f : ℕ → ℕ} (p : IsPanel a w m rows f) (c : ℕ) → c ≤ 6 → AgreesAfter a w m rows f c
+agrees : {a w : ℕ → ℕ → ℤ} {m rows : ℕ} {f : ℕ → ℕ} (p : HoldsRemainder a w m rows f) (c : ℕ) → c ≤ 6 → AgreesAfter a w m rows f c
 agrees {a} {w} {m} {rows} {f} p zero le r k in' kl =
     left_after-none w r k ∙ p.left r k in' kl ∙ ap (λ x. left_after a x (f r) (m + k)) (sym (add-zero m))
 agrees {a} {w} {m} {rows} {f} p (suc c) le r k in' kl =
@@ -73,8 +67,8 @@ agrees {a} {w} {m} {rows} {f} p (suc c) le r k in' kl =
     ∙ ap (λ x. left_after a x (f r) (m + k)) (sym (add-suc m c))
 
 -- the columns of the panel are those of the factor
-pub panel-entry : {a w : ℕ → ℕ → ℤ} {m rows : ℕ} {f : ℕ → ℕ} → IsPanel a w m rows f → (r c : ℕ) → r < rows → c < 6 → cholesky w r c ≡ cholesky a (f r) (m + c)
+pub panel-entry : {a w : ℕ → ℕ → ℤ} {m rows : ℕ} {f : ℕ → ℕ} → HoldsRemainder a w m rows f → (r c : ℕ) → r < rows → c < 6 → cholesky w r c ≡ cholesky a (f r) (m + c)
 panel-entry p r c in' lt = same_entry p r c in' lt (agrees p c (omega arith))
 
-pub panel-pivot : {a w : ℕ → ℕ → ℤ} {m rows : ℕ} {f : ℕ → ℕ} → IsPanel a w m rows f → (c : ℕ) → c < 6 → pivot w c ≡ pivot a (m + c)
+pub panel-pivot : {a w : ℕ → ℕ → ℤ} {m rows : ℕ} {f : ℕ → ℕ} → HoldsRemainder a w m rows f → (c : ℕ) → c < 6 → pivot w c ≡ pivot a (m + c)
 panel-pivot p c lt = same_pivot p c lt (agrees p c (omega arith))

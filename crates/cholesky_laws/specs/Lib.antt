@@ -2,3 +2,4 @@ pub mod Recurrence
 pub mod Breakdown
 pub mod Fill
 pub mod Factor
+pub mod Laws

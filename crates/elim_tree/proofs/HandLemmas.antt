@@ -6,7 +6,7 @@ use Rattle.std.proofs.lemmas.List.{get_or-set_same, get_or-set_other}
 use Rattle.lists.specs.Rising.{IsRising, InsertsLater}
 use Rattle.lists.specs.Lists.{list_of}
 use Rattle.elimination.specs.Elimination.{Joined, IsLaterNeighbour}
-use Rattle.elimination.proofs.JoinedLemmas.{later_from_linked, later_closed}
+use Rattle.elim_tree.proofs.JoinedLemmas.{later_from_linked, later_closed}
 use Rattle.elim_tree.specs.Tree.{AreLater}
 use Rattle.elim_tree.specs.Parts.{AreHigher, higher, HandsTo}
 use Rattle.elim_tree.proofs.HeadLemmas.{contains_none, head_none, head_from, head_contained, head_least, same_head}

@@ -4,11 +4,11 @@ use Rattle.std.proofs.lemmas.Bool.{cases_lt, cases_eq, ne_eqb}
 use Rattle.std.proofs.lemmas.List.{same_lists, get_or_default}
 use Rattle.lists.specs.Lists.{list_of}
 use Rattle.lists.proofs.UniqueLemmas.{rising_unique}
+use Rattle.cholesky_laws.specs.Laws.{RecurrenceLaws}
 use Rattle.cholesky_laws.specs.Recurrence.{cholesky, scaled_stiffness}
 use Rattle.lists.specs.Rows.{freedom_at}
 use Rattle.cholesky_laws.specs.Fill.{IsOnPattern}
-use Rattle.cholesky_laws.proofs.RecurrenceLemmas.{cholesky-above}
-use Rattle.cholesky_laws.proofs.FillLemmas.{no_fill}
+use Rattle.elim_tree.proofs.FillLemmas.{no_fill}
 use Rattle.elim_order.specs.Graph.{links}
 use Rattle.elim_order.specs.Determined.{LinkAlike}
 use Rattle.elim_tree.specs.Fronts.{Fronts, rows_at, front_rows, entries_of}
@@ -56,8 +56,8 @@ in_rows places i (k, lt, is) =
     let read : freedom_at places s ≡ 6 * get_or places k 0 + i % 6 = ap (λ (x : ℕ). 6 * get_or places x 0 + s % 6) at ∙ ap (λ (x : ℕ). 6 * get_or places k 0 + x) off in
     (s, omega (arith, long, sl), row ∙ read ∙ (let e : 6 * get_or places k 0 + i % 6 ≡ i = omega (arith, value) in e))
 
-pub fill_in_rows : (pairs : List (ℕ × ℕ)) (order : List ℕ) (t : Fronts) (a : ℕ → ℕ → ℤ) → IsTreeOf (placed (links pairs) order) order t → IsOnPattern a (placed (links pairs) order) (length order) → (i k : ℕ) → i < 6 * length order → k < 6 * length order → (Contains (list_of (front_rows t) (k / 6)) i → ⊥) → cholesky a i k ≡ pos 0
-fill_in_rows pairs order t a is on i k il kl out =
+pub fill_in_rows : RecurrenceLaws → (pairs : List (ℕ × ℕ)) (order : List ℕ) (t : Fronts) (a : ℕ → ℕ → ℤ) → IsTreeOf (placed (links pairs) order) order t → IsOnPattern a (placed (links pairs) order) (length order) → (i k : ℕ) → i < 6 * length order → k < 6 * length order → (Contains (list_of (front_rows t) (k / 6)) i → ⊥) → cholesky a i k ≡ pos 0
+fill_in_rows laws pairs order t a is on i k il kl out =
     let linked = placed (links pairs) order in
     let long = ap (λ (xs : List ℕ). length xs) is.order_is in
     let f = k / 6 in
@@ -67,12 +67,12 @@ fill_in_rows pairs order t a is on i k il kl out =
     let no : Contains (f ∷ list_of t.later f) (i / 6) → ⊥ = λ h. out (subst P (sym read) (in_rows (f ∷ list_of t.later f) i h)) in
     elim (cases_lt f (i / 6)) [
       | inl past ↦
-          no_fill a linked (length order) on k i il past
+          no_fill laws a linked (length order) on k i il past
           (λ later. no (let (n, nl, e) = (is.later_are.members f (i / 6) fl).1 later in (suc n, omega arith, e)))
       | inr from ↦
           elim (cases_eq f (i / 6)) [
             | inl same ↦ absurd (no (0, omega arith, same))
-            | inr ne ↦ cholesky-above a i k (omega arith)
+            | inr ne ↦ laws.entries.above a i k (omega arith)
           ]
     ]
 

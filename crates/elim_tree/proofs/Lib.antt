@@ -5,3 +5,5 @@ pub mod FrontLemmas
 pub mod PartLemmas
 pub mod ShapeLemmas
 pub mod LawLemmas
+pub mod JoinedLemmas
+pub mod FillLemmas

@@ -6,7 +6,7 @@ use Rattle.std.specs.Option.{IfSome}
 use Rattle.lists.specs.Lists.{list_of}
 use Rattle.lists.specs.Order.{IsOrder}
 use Rattle.elimination.specs.Elimination.{IsLaterNeighbour, IsParent, IsTree, AreParents}
-use Rattle.elimination.proofs.JoinedLemmas.{later_closed}
+use Rattle.elim_tree.proofs.JoinedLemmas.{later_closed}
 use Rattle.elim_order.specs.Order.{IsNarrowAt}
 use Rattle.elim_tree.specs.Fronts.{Fronts, IsAssemblyTree, AreChildren, parent_in, parents_in, entries_of}
 use Rattle.elim_tree.specs.Tree.{placed, AreLater, IsTreeOf}

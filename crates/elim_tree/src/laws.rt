@@ -1,5 +1,7 @@
 ghost use Rattle.elim_tree.specs.Laws.{OneTree, NeverTooMany, ParentsAreOfElimination, FillLiesInRows, StiffnessIsOnPattern};
 
+use cholesky_laws::recurrence_keeps_laws;
+
 /// What shows that an order and the set of pairs leave no choice: there is at most one tree, and never one beside too many
 /// entries.
 pub fn trees_are_determined()
@@ -13,4 +15,6 @@ pub fn fill_lies_in_rows()
     ensures parents { ParentsAreOfElimination }
     ensures fill { FillLiesInRows }
     ensures stiffness { StiffnessIsOnPattern }
-{}
+{
+    recurrence_keeps_laws();
+}

@@ -28,6 +28,10 @@ pub record IsTree (linked : ℕ → ℕ → Type 0) (nodes : ℕ) (parents : Lis
 abbrev pub parent_of : List (Option ℕ) → ℕ → Option ℕ
 parent_of parents p = slice_index_or parents p None
 
+-- node n is the parent of node d
+abbrev pub is_parent : List (Option ℕ) → ℕ → ℕ → Bool
+is_parent parents n d = option_map_or (λ v. nat_eq v n) (parent_of parents d) false
+
 -- each parent is a later node
 abbrev pub AreParents : List (Option ℕ) → ℕ → Type 0
 AreParents parents size = (p : ℕ) → p < size → IfSome (parent_of parents p) (λ u. (p < u) × (u < size))

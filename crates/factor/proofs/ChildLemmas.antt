@@ -11,12 +11,12 @@ use Rattle.int_laws.proofs.SumLaws.{sum_below-nonnegative}
 use Rattle.lists.specs.Rising.{IsRising}
 use Rattle.lists.specs.Order.{place_of}
 use Rattle.lists.proofs.PlaceLemmas.{place_of-at}
-use Rattle.elimination.specs.Elimination.{parent_of}
+use Rattle.elimination.specs.Elimination.{parent_of, is_parent}
+use Rattle.cholesky_laws.specs.Laws.{RecurrenceLaws}
 use Rattle.cholesky_laws.specs.Breakdown.{Passes, squares}
 use Rattle.int_laws.proofs.SumLaws.{sum_below-at_most}
-use Rattle.cholesky_laws.proofs.BoundLemmas.{squares-nonnegative}
 use Rattle.factor.specs.Panel.{IsPanel, kept_for}
-use Rattle.factor.specs.State.{ArePanels, IsRowPattern, HoldsChildren, is_parent}
+use Rattle.factor.specs.State.{ArePanels, IsRowPattern, HoldsChildren}
 use Rattle.factor.specs.declared.panel.Panel.{Panel}
 use Rattle.factor.proofs.GapLemmas.{IsGap, carried, none_first, none_between, gap_past}
 use Rattle.factor.proofs.RowPatternLemmas.{below}
@@ -77,8 +77,8 @@ children_after a parents size n i m panels row_pattern nodes sums p u lt start g
     start
 
 -- the sums are small
-pub children_small : (a : ℕ → ℕ → ℤ) (parents : List (Option ℕ)) (size n m : ℕ) (nodes : List ℕ) (sums : List ℤ) → size ≤ 8000 → m ≤ n → n < size → ((d : ℕ) → d < n → Passes a parents size d) → IsRising nodes → All (λ q. (n ≤ q) × (q < size)) nodes → length sums ≡ 6 * length nodes → HoldsChildren a parents size n nodes sums m → All (λ x. unsigned_abs x < 2 ^ 126) sums
-children_small a parents size n m nodes sums few le in' passes up within whole holds s d lt =
+pub children_small : RecurrenceLaws → (a : ℕ → ℕ → ℤ) (parents : List (Option ℕ)) (size n m : ℕ) (nodes : List ℕ) (sums : List ℤ) → size ≤ 8000 → m ≤ n → n < size → ((d : ℕ) → d < n → Passes a parents size d) → IsRising nodes → All (λ q. (n ≤ q) × (q < size)) nodes → length sums ≡ 6 * length nodes → HoldsChildren a parents size n nodes sums m → All (λ x. unsigned_abs x < 2 ^ 126) sums
+children_small laws a parents size n m nodes sums few le in' passes up within whole holds s d lt =
     let p = s / 6 in
     let r = s % 6 in
     let p-in : p < length nodes = omega (arith, whole) in
@@ -89,7 +89,7 @@ children_small a parents size n m nodes sums few le in' passes up within whole h
     let is : get_or sums s d ≡ sum_below m f =
     get_or_default sums s d (pos 0) lt ∙ ap (λ (x : ℕ). get_or sums x (pos 0)) (sym at) ∙ holds q r bounds.0 bounds.1 (omega arith)
     in
-    let low = sum_below-nonnegative m f (λ e el. picked_low (is_parent parents n e) (squares a parents e (6 * q + r)) (squares-nonnegative a parents e (6 * q + r))) in
+    let low = sum_below-nonnegative m f (λ e el. picked_low (is_parent parents n e) (squares a parents e (6 * q + r)) (laws.subtrees.nonnegative a parents e (6 * q + r))) in
     let high = sum_below-at_most m (2 ^ 113) f (λ e el. picked_high (is_parent parents n e) (squares a parents e (6 * q + r)) ((passes e (omega arith)).narrow (6 * q + r) (omega arith, omega arith))) in
     let many : m * 2 ^ 113 ≤ 8000 * 2 ^ 113 = mul-le-mul_right (2 ^ 113) (let l : m ≤ 8000 = omega arith in l) in
     rw is (small_sum (sum_below m f) (m * 2 ^ 113) many low high)
@@ -106,11 +106,11 @@ children_small a parents size n m nodes sums few le in' passes up within whole h
     small_sum z b many low high = omega (arith, int_sums)
 
 -- the sums that an earlier panel has for later rows are narrow
-pub panel_sums_small : (a : ℕ → ℕ → ℤ) (parents : List (Option ℕ)) (size d n q r : ℕ) (reached : List ℕ) (entries sums : List ℤ) → d < n → n ≤ q → r < 6 → Contains reached q → IsPanel a parents size d reached entries sums → Passes a parents size d → unsigned_abs (kept_for 6 reached sums q r) < 2 ^ 120
-panel_sums_small a parents size d n q r reached entries sums lt le rl reaches panel passes =
+pub panel_sums_small : RecurrenceLaws → (a : ℕ → ℕ → ℤ) (parents : List (Option ℕ)) (size d n q r : ℕ) (reached : List ℕ) (entries sums : List ℤ) → d < n → n ≤ q → r < 6 → Contains reached q → IsPanel a parents size d reached entries sums → Passes a parents size d → unsigned_abs (kept_for 6 reached sums q r) < 2 ^ 120
+panel_sums_small laws a parents size d n q r reached entries sums lt le rl reaches panel passes =
     let bounds = All-contains (λ (x : ℕ). (d ≤ x) × (x < size)) reached q panel.from_own reaches in
     let in' = bounds.1 in
     let is = panel.squares_are q r (omega arith) in' rl in
-    let low = squares-nonnegative a parents d (6 * q + r) in
+    let low = laws.subtrees.nonnegative a parents d (6 * q + r) in
     let high = passes.narrow (6 * q + r) (omega arith, omega arith) in
     rw is (omega (arith, int_sums))

@@ -8,9 +8,8 @@ use Rattle.int_laws.proofs.Sums.{int_sums}
 use Rattle.int_laws.proofs.SumLaws.{sum_below-same}
 use Rattle.int_laws.specs.Division.{nearest_of}
 use Rattle.int_laws.specs.Root.{root_of}
+use Rattle.cholesky_laws.specs.Laws.{RecurrenceLaws}
 use Rattle.cholesky_laws.specs.Recurrence.{cholesky, left_after, pivot}
-use Rattle.cholesky_laws.proofs.RecurrenceLemmas.{cholesky-above, cholesky-diagonal, cholesky-below}
-use Rattle.cholesky_laws.proofs.BoundLemmas.{pivot_after_large, pivot-le}
 use Rattle.int_laws.proofs.RootLemmas.{root_of-is, root_bounds}
 use Rattle.factor.specs.Panel.{by_rows, left_in_row}
 use Rattle.factor.specs.Eliminate.{IsEliminatedTo}
@@ -67,10 +66,10 @@ pub record IsEntryAnswer (left : ℤ) (entries : List ℤ) (r c : ℕ) (answer :
 abbrev pub IsBounded : (ℕ → ℕ → ℤ) → Type 0
 IsBounded w = (c : ℕ) → c < 6 → w c c <ℤ pos (2 ^ 113)
 
-pub entry_more : {w : ℕ → ℕ → ℤ} {entries : List ℤ} (r c : ℕ) (x : ℤ) → IsBounded w → IsEliminatedTo w (6 * r + c) entries → c < 6 → IsEntryAnswer (w r c) entries r c (Some x) → IsEliminatedTo w (6 * r + c + 1) (entries ++ x ∷ [])
-entry_more {w} {entries} r c x bounded e cl answer =
+pub entry_more : RecurrenceLaws → {w : ℕ → ℕ → ℤ} {entries : List ℤ} (r c : ℕ) (x : ℤ) → IsBounded w → IsEliminatedTo w (6 * r + c) entries → c < 6 → IsEntryAnswer (w r c) entries r c (Some x) → IsEliminatedTo w (6 * r + c + 1) (entries ++ x ∷ [])
+entry_more laws {w} {entries} r c x bounded e cl answer =
     elim (cases_lt r c) [
-      | inl above ↦ (let is : x ≡ pos 0 = some_is (answer.above above) in more r c x e cl (is ∙ sym (cholesky-above w r c above)) (omega (arith, ap unsigned_abs is)) (λ q. absurd (omega arith)))
+      | inl above ↦ (let is : x ≡ pos 0 = some_is (answer.above above) in more r c x e cl (is ∙ sym (laws.entries.above w r c above)) (omega (arith, ap unsigned_abs is)) (λ q. absurd (omega arith)))
       | inr from ↦
           let left = left_is r c e cl from in
           elim (cases_eq r c) [
@@ -78,9 +77,9 @@ entry_more {w} {entries} r c x bounded e cl answer =
                 (let own = answer.own same in
                 let pivot_is : left_in_row (w r c) entries r c ≡ pivot w c = left ∙ ap (λ y. left_after w c y c) same in
                 let positive : pos 1 ≤ℤ pivot w c = rw pivot_is at own.0 in
-                let value : x ≡ cholesky w r c = own.1 ∙ ap root_of pivot_is ∙ sym (cholesky-diagonal w c positive) ∙ ap (λ y. cholesky w y c) (sym same) in
+                let value : x ≡ cholesky w r c = own.1 ∙ ap root_of pivot_is ∙ sym (laws.entries.diagonal w c positive) ∙ ap (λ y. cholesky w y c) (sym same) in
                 let below = bounded c cl in
-                let falls = pivot-le w c in
+                let falls = laws.sizes.falls w c in
                 let bounds = root_bounds (pivot w c) positive (omega (arith, int_sums)) in
                 let root : x ≡ root_of (pivot w c) = own.1 ∙ ap root_of pivot_is in
                 more r c x e cl value (omega (arith, int_sums, bounds.0, bounds.1)) (λ q. positive))
@@ -89,7 +88,7 @@ entry_more {w} {entries} r c x bounded e cl answer =
                 let positive = e.pivots c cl (omega arith) in
                 let value : x ≡ cholesky w r c =
                 below.1 ∙ ap (λ y. nearest_of y (by_rows entries c c)) left ∙ ap (λ y. nearest_of (left_after w c r c) y) (row_entry e c c cl (omega arith))
-                ∙ sym (cholesky-below w r c (omega arith) positive)
+                ∙ sym (laws.entries.below w r c (omega arith) positive)
                 in
                 more r c x e cl value below.0 (λ q. absurd (apart q))
           ]
@@ -99,8 +98,8 @@ entry_more {w} {entries} r c x bounded e cl answer =
     some_is h = cc
 
 -- no entry: the pivot, or an entry that is too large
-pub entry_none : {w : ℕ → ℕ → ℤ} {entries : List ℤ} (r c : ℕ) → IsEliminatedTo w (6 * r + c) entries → c < 6 → IsEntryAnswer (w r c) entries r c None → ((r ≡ c) × (pivot w c <ℤ pos 1)) ⊎ ((c < r) × (2 ^ 57 ≤ unsigned_abs (cholesky w r c)))
-entry_none {w} {entries} r c e cl answer =
+pub entry_none : RecurrenceLaws → {w : ℕ → ℕ → ℤ} {entries : List ℤ} (r c : ℕ) → IsEliminatedTo w (6 * r + c) entries → c < 6 → IsEntryAnswer (w r c) entries r c None → ((r ≡ c) × (pivot w c <ℤ pos 1)) ⊎ ((c < r) × (2 ^ 57 ≤ unsigned_abs (cholesky w r c)))
+entry_none laws {w} {entries} r c e cl answer =
     elim (cases_lt r c) [
       | inl above ↦ (let none = answer.above above in absurd cc)
       | inr from ↦
@@ -111,26 +110,26 @@ entry_none {w} {entries} r c e cl answer =
                 let positive = e.pivots c cl (omega arith) in
                 let value : nearest_of (left_in_row (w r c) entries r c) (by_rows entries c c) ≡ cholesky w r c =
                 ap (λ y. nearest_of y (by_rows entries c c)) left ∙ ap (λ y. nearest_of (left_after w c r c) y) (row_entry e c c cl (omega arith))
-                ∙ sym (cholesky-below w r c (omega arith) positive)
+                ∙ sym (laws.entries.below w r c (omega arith) positive)
                 in
                 inr (omega arith, rw (← value) (answer.below (omega arith)))
           ]
     ]
 
 -- in the node's own rows that is a pivot below 1, in the row reached
-pub pivot_broken : {w : ℕ → ℕ → ℤ} {entries : List ℤ} (r c : ℕ) → IsBounded w → IsEliminatedTo w (6 * r + c) entries → c < 6 → r < 6 → IsEntryAnswer (w r c) entries r c None → ((d : ℕ) → d < r → pos 1 ≤ℤ pivot w d) × (pivot w r <ℤ pos 1)
-pivot_broken {w} r c bounded e cl rl answer = (
+pub pivot_broken : RecurrenceLaws → {w : ℕ → ℕ → ℤ} {entries : List ℤ} (r c : ℕ) → IsBounded w → IsEliminatedTo w (6 * r + c) entries → c < 6 → r < 6 → IsEntryAnswer (w r c) entries r c None → ((d : ℕ) → d < r → pos 1 ≤ℤ pivot w d) × (pivot w r <ℤ pos 1)
+pivot_broken laws {w} r c bounded e cl rl answer = (
   λ d lt. e.pivots d (omega arith) (omega arith),
-  elim (entry_none r c e cl answer) [
+  elim (entry_none laws r c e cl answer) [
     | inl (same, low) ↦ (let P : ℕ → Type 0 = λ y. pivot w y <ℤ pos 1 in subst P (sym same) low)
-    | inr (lt, large) ↦ pivot_after_large w r c lt (bounded r rl) large
+    | inr (lt, large) ↦ laws.sizes.large w r c lt (bounded r rl) large
   ],
 )
 
 -- past them it is a large entry
-pub wide_entry : {w : ℕ → ℕ → ℤ} {entries : List ℤ} (r c : ℕ) → IsEliminatedTo w (6 * r + c) entries → c < 6 → 6 ≤ r → IsEntryAnswer (w r c) entries r c None → 2 ^ 57 ≤ unsigned_abs (cholesky w r c)
-wide_entry r c e cl from answer =
-    elim (entry_none r c e cl answer) [ inl (same, low) ↦ absurd (omega arith) | inr (lt, large) ↦ large ]
+pub wide_entry : RecurrenceLaws → {w : ℕ → ℕ → ℤ} {entries : List ℤ} (r c : ℕ) → IsEliminatedTo w (6 * r + c) entries → c < 6 → 6 ≤ r → IsEntryAnswer (w r c) entries r c None → 2 ^ 57 ≤ unsigned_abs (cholesky w r c)
+wide_entry laws r c e cl from answer =
+    elim (entry_none laws r c e cl answer) [ inl (same, low) ↦ absurd (omega arith) | inr (lt, large) ↦ large ]
 
 -- a place by its row and column
 place_is : (s : ℕ) → 6 * (s / 6) + s % 6 ≡ s
@@ -148,11 +147,11 @@ answer_at {entries} {answer} work s left is h =
     subst P (is ∙ ap (λ n. get_or work n (pos 0)) (sym (place_is s))) h
 
 -- a node's pivot, read for a quotient
-pub pivot_positive : {w : ℕ → ℕ → ℤ} {entries : List ℤ} (s : ℕ) → IsEliminatedTo w s entries → s % 6 < s / 6 → pos 1 ≤ℤ by_rows entries (s % 6) (s % 6)
-pivot_positive {w} {entries} s e lt =
+pub pivot_positive : RecurrenceLaws → {w : ℕ → ℕ → ℤ} {entries : List ℤ} (s : ℕ) → IsEliminatedTo w s entries → s % 6 < s / 6 → pos 1 ≤ℤ by_rows entries (s % 6) (s % 6)
+pivot_positive laws {w} {entries} s e lt =
     let ok = e.pivots (s % 6) (omega arith) (omega arith) in
     rw (row_entry e (s % 6) (s % 6) (omega arith) (omega arith))
-    (rw (cholesky-diagonal w (s % 6) ok) ((root_of-is (pivot w (s % 6)) (omega (arith, int_sums))).greatest (pos 1) (omega (arith, int_sums))))
+    (rw (laws.entries.diagonal w (s % 6) ok) ((root_of-is (pivot w (s % 6)) (omega (arith, int_sums))).greatest (pos 1) (omega (arith, int_sums))))
 
 -- the entry that is put at the end is as it was computed
 pub pushed_is : {w : ℕ → ℕ → ℤ} {s : ℕ} (entries : List ℤ) (x : ℤ) → IsEliminatedTo w s (entries ++ x ∷ []) → to_z w64 (of_z w64 x) ≡ x

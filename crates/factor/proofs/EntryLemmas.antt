@@ -9,8 +9,8 @@ use Rattle.int_laws.proofs.Sums.{int_sums}
 use Rattle.int_laws.proofs.SumLaws.{sum_below-same, sum_below-nonnegative}
 use Rattle.int_laws.proofs.Products.{square_nonnegative}
 use Rattle.int_laws.specs.Division.{nearest_of}
-use Rattle.int_laws.specs.Root.{root_of}
 use Rattle.int_laws.proofs.RootLemmas.{root_bounds}
+use Rattle.int_laws.specs.Root.{root_of}
 use Rattle.factor.specs.Panel.{by_rows, dot_of, left_in_row}
 use Rattle.factor.proofs.CastLemmas.{wide_is, narrow_is, fits_narrow}
 

@@ -1,5 +1,5 @@
 -- What is left for a node's rows, from one node of the row pattern to the next.
-use Rattle.std.proofs.Common.{◌≡◌, ℕ, suc, ◌+◌, ◌*◌, ◌/◌, ◌%◌, ◌^◌, ◌<◌, ◌≤◌, cond, List, Option, length, get_or, Contains, All, ◌∙◌, sym, ap, arith, subst, inl, inr, ℤ, pos, ◌+ℤ◌, ◌-ℤ◌, ◌*ℤ◌}
+use Rattle.std.proofs.Common.{◌≡◌, ℕ, suc, ◌+◌, ◌*◌, ◌/◌, ◌%◌, ◌^◌, ◌<◌, ◌≤◌, cond, List, Option, length, get_or, Contains, All, ◌∙◌, sym, ap, arith, subst, inl, inr, ℤ, pos, ◌+ℤ◌, ◌-ℤ◌, ◌*ℤ◌, ◌<ℤ◌}
 use Rattle.std.specs.Int.RustNames.{unsigned_abs}
 use Rattle.std.proofs.lemmas.Bool.{cases_lt, ne_eqb}
 use Rattle.std.proofs.lemmas.List.{get_or_default}
@@ -11,12 +11,11 @@ use Rattle.lists.specs.Rising.{IsRising}
 use Rattle.lists.specs.Order.{place_of}
 use Rattle.lists.proofs.PlaceLemmas.{place_of-at, place_of-absent, at_place_of}
 use Rattle.sym_blocks.specs.Matrix.{Matrix, HasBlock, IsSymmetricByBlocks, entry as stiffness}
+use Rattle.cholesky_laws.specs.Laws.{RecurrenceLaws}
 use Rattle.cholesky_laws.specs.Recurrence.{cholesky, left_after, scaled_stiffness}
 use Rattle.lists.specs.Rows.{freedom_at}
-use Rattle.cholesky_laws.specs.Breakdown.{Passes}
+use Rattle.cholesky_laws.specs.Breakdown.{Passes, squares}
 use Rattle.int_laws.proofs.SumLaws.{sum_below-split}
-use Rattle.cholesky_laws.proofs.RecurrenceLemmas.{left_after-none}
-use Rattle.cholesky_laws.proofs.BoundLemmas.{left_after-small, IsNarrowBefore}
 use Rattle.factor.specs.Panel.{IsPanel, kept_for}
 use Rattle.factor.specs.Gather.{block_product}
 use Rattle.factor.specs.Front.{IsScattered}
@@ -92,8 +91,8 @@ outside_none k order shift q n r c kept rl cl apart absent =
     ∙ ap (λ z. pos (2 ^ 52) *ℤ (z -ℤ pos 0)) none
 
 -- the entries that are scattered are those of the matrix
-pub scattered_holds : (k : Matrix) (order : List ℕ) (parents : List (Option ℕ)) (shift : ℤ) (panels : List Panel) (row_pattern nodes : List ℕ) (n : ℕ) (work : List ℤ) → n < length order → IsFront k order parents panels row_pattern n nodes → IsScattered (matrix_of k order shift) nodes n work → HoldsLeft (matrix_of k order shift) (length order) n nodes work 0
-scattered_holds k order parents shift panels row_pattern nodes n work in' front scattered q t nq qs tl =
+pub scattered_holds : RecurrenceLaws → (k : Matrix) (order : List ℕ) (parents : List (Option ℕ)) (shift : ℤ) (panels : List Panel) (row_pattern nodes : List ℕ) (n : ℕ) (work : List ℤ) → n < length order → IsFront k order parents panels row_pattern n nodes → IsScattered (matrix_of k order shift) nodes n work → HoldsLeft (matrix_of k order shift) (length order) n nodes work 0
+scattered_holds laws k order parents shift panels row_pattern nodes n work in' front scattered q t nq qs tl =
     let a = matrix_of k order shift in
     let p = place_of q nodes in
     elim (cases_lt p (length nodes)) [
@@ -107,7 +106,7 @@ scattered_holds k order parents shift panels row_pattern nodes n work in' front 
           ∙ ap (λ (x : ℕ). a (6 * x + s % 36 / 6) (6 * n + s % 6)) node
           ∙ ap (λ (x : ℕ). a (6 * q + x) (6 * n + s % 6)) e2
           ∙ ap (λ (x : ℕ). a (6 * q + t / 6) (6 * n + x)) e3
-          ∙ sym (left_after-none a (6 * q + t / 6) (6 * n + t % 6)))
+          ∙ sym (laws.remainders.start a (6 * q + t / 6) (6 * n + t % 6)))
       | inr ge ↦
           let missing : Contains nodes q → ⊥ =
           λ (v, vl, is).
@@ -119,12 +118,12 @@ scattered_holds k order parents shift panels row_pattern nodes n work in' front 
           kept_for-past 36 nodes work q t (omega (arith, scattered.whole)) ge
           ∙ sym (outside_none k order shift q n (t / 6) (t % 6) front.kept (omega arith) (omega arith) apart
           (λ h. missing (front.matrix q (let differ = apart in omega arith) qs (front.kept.converse (get_or order q 0) (get_or order n 0) h))))
-          ∙ sym (left_after-none a (6 * q + t / 6) (6 * n + t % 6))
+          ∙ sym (laws.remainders.start a (6 * q + t / 6) (6 * n + t % 6))
     ]
 
 -- the numbers left are small
-pub left_small : (a : ℕ → ℕ → ℤ) (parents : List (Option ℕ)) (size n m : ℕ) (nodes : List ℕ) (work : List ℤ) → size ≤ 8000 → m ≤ n → n < size → ((i j : ℕ) → unsigned_abs (a i j) < 2 ^ 113) → ((d : ℕ) → d < n → Passes a parents size d) → IsRising nodes → All (λ q. (n ≤ q) × (q < size)) nodes → length work ≡ 36 * length nodes → HoldsLeft a size n nodes work m → All (λ x. unsigned_abs x < 2 ^ 126) work
-left_small a parents size n m nodes work few le in' small passes up within whole holds s d lt =
+pub left_small : RecurrenceLaws → (a : ℕ → ℕ → ℤ) (parents : List (Option ℕ)) (size n m : ℕ) (nodes : List ℕ) (work : List ℤ) → size ≤ 8000 → m ≤ n → n < size → ((i j : ℕ) → unsigned_abs (a i j) < 2 ^ 113) → ((d : ℕ) → d < n → Passes a parents size d) → IsRising nodes → All (λ q. (n ≤ q) × (q < size)) nodes → length work ≡ 36 * length nodes → HoldsLeft a size n nodes work m → All (λ x. unsigned_abs x < 2 ^ 126) work
+left_small laws a parents size n m nodes work few le in' small passes up within whole holds s d lt =
     let p = s / 36 in
     let t = s % 36 in
     let p-in : p < length nodes = omega (arith, whole) in
@@ -134,9 +133,9 @@ left_small a parents size n m nodes work few le in' small passes up within whole
     let is : get_or work s d ≡ left_after a (6 * m) (6 * q + t / 6) (6 * n + t % 6) =
     get_or_default work s d (pos 0) lt ∙ ap (λ (x : ℕ). get_or work x (pos 0)) (sym at) ∙ holds q t bounds.0 bounds.1 (omega arith)
     in
-    let narrow : (x r : ℕ) → n ≤ x → x < size → r < 6 → IsNarrowBefore a parents m (6 * x + r) =
+    let narrow : (x r : ℕ) → n ≤ x → x < size → r < 6 → (d : ℕ) → d < m → squares a parents d (6 * x + r) <ℤ pos (2 ^ 113) =
     λ x r nx xs rl e el. (passes e (omega arith)).narrow (6 * x + r) (omega arith, omega arith)
     in
     rw is
-    (left_after-small a parents m (6 * q + t / 6) (6 * n + t % 6) (omega arith) (small (6 * q + t / 6) (6 * n + t % 6))
+    (laws.sizes.left a parents m (6 * q + t / 6) (6 * n + t % 6) (omega arith) (small (6 * q + t / 6) (6 * n + t % 6))
     (narrow q (t / 6) bounds.0 bounds.1 (omega arith)) (narrow n (t % 6) (omega arith) in' (omega arith)))

@@ -11,3 +11,4 @@ pub mod AdjacencyLemmas
 pub mod NodeLemmas
 pub mod ColumnLemmas
 pub mod StepLemmas
+pub mod DiagonalLemmas

@@ -6,8 +6,8 @@ use Rattle.std.proofs.lemmas.Bool.{cases_lt, lt-ltb, le-ltb}
 use Rattle.std.proofs.lemmas.List.{get_or_append_left, get_or_push, length_push, length-map, map_push}
 use Rattle.lists.specs.Lists.{list_of}
 use Rattle.factor_data.specs.Columns.{ColumnLists}
+use Rattle.cholesky_laws.specs.Laws.{RecurrenceLaws}
 use Rattle.cholesky_laws.specs.Recurrence.{cholesky}
-use Rattle.cholesky_laws.proofs.RecurrenceLemmas.{cholesky-above}
 use Rattle.factor.specs.Panel.{kept_for}
 use Rattle.factor.specs.State.{ArePanels, IsRowPattern, IsNodePanel, nodes_at, entries_at, sums_at}
 use Rattle.factor.specs.Columns.{ArePanelShapes, HasColumns}
@@ -90,8 +90,8 @@ panel_shapes a parents size panels p =
     }
 
 -- the factor has the recurrence's entries
-pub factor_is : (a : ℕ → ℕ → ℤ) (order : List ℕ) (parents : List (Option ℕ)) (panels : List Panel) (f : ColumnLists) → ArePanels a parents (length order) (length order) panels → HasColumns order panels f → IsFactorOf a order parents f
-factor_is a order parents panels f p c =
+pub factor_is : RecurrenceLaws → (a : ℕ → ℕ → ℤ) (order : List ℕ) (parents : List (Option ℕ)) (panels : List Panel) (f : ColumnLists) → ArePanels a parents (length order) (length order) panels → HasColumns order panels f → IsFactorOf a order parents f
+factor_is laws a order parents panels f p c =
     record {
       order_is = c.order_is;
       entries = λ i j il jl.
@@ -100,7 +100,7 @@ factor_is a order parents panels f p c =
           let kept = kept_for 36 (nodes_at panels d) (entries_at panels d) q (6 * (i % 6) + j % 6) in
           c.entries i j jl
           ∙ elim (cases_lt i j) [
-            | inl above ↦ ap (λ b. cond b (pos 0) kept) (lt-ltb i j above) ∙ sym (cholesky-above a i j above)
+            | inl above ↦ ap (λ b. cond b (pos 0) kept) (lt-ltb i j above) ∙ sym (laws.entries.above a i j above)
             | inr from ↦
                 let row : 6 * q + i % 6 ≡ i = omega arith in
                 let column : 6 * d + j % 6 ≡ j = omega arith in

@@ -6,7 +6,7 @@ use Rattle.std.specs.Int.RustNames.{unsigned_abs}
 use Rattle.lists.specs.Rising.{IsRising}
 use Rattle.sym_blocks.specs.Matrix.{Matrix, node_count, HasBlock, IsSymmetricByBlocks, entry as stiffness}
 use Rattle.cholesky_laws.specs.Recurrence.{left_after, scaled_stiffness}
-use Rattle.elimination.specs.Elimination.{AreParents, parent_of}
+use Rattle.elimination.specs.Elimination.{AreParents, parent_of, is_parent}
 use Rattle.cholesky_laws.specs.Breakdown.{Passes, squares}
 use Rattle.lists.specs.Order.{IsOrder}
 use Rattle.factor.specs.Panel.{IsPanel, kept_for}
@@ -62,10 +62,6 @@ pub record IsFront (k : Matrix) (order : List ℕ) (parents : List (Option ℕ))
   pub matrix : (q : ℕ) → n < q → q < length order → HasBlock k (slice_index order n) (slice_index order q) → Contains nodes q
   pub reached : (d q : ℕ) → Contains row_pattern d → n < q → Contains (nodes_at panels d) q → Contains nodes q
   pub kept : IsSymmetricByBlocks k
-
--- node n is the parent of node d
-abbrev pub is_parent : List (Option ℕ) → ℕ → ℕ → Bool
-is_parent parents n d = option_map_or (λ v. nat_eq v n) (parent_of parents d) false
 
 -- what is left for the rows of the nodes kept, after the columns of m nodes
 abbrev pub HoldsLeft : (ℕ → ℕ → ℤ) → ℕ → ℕ → List ℕ → List ℤ → ℕ → Type 0

@@ -7,6 +7,7 @@ ghost use Rattle.factor.specs.Eliminate.{IsEliminated, IsPanelBreakdown};
 ghost use Rattle.factor.specs.declared.eliminate.Breakdown.TheVariants.{NoMemory};
 
 use crate::dot::dot;
+use cholesky_laws::recurrence_keeps_laws;
 use flex_num::{isqrt, nearest_div};
 use std::alloc::{AllocError, AllocFailed, Global};
 
@@ -46,6 +47,7 @@ pub fn eliminate(alloc: Global, work: &[i128]) -> Result<Vec<i64>, Breakdown>
         (λ entries. IsEliminated (by_rows work.now) (length work.now) entries.items)
         (IsPanelBreakdown (by_rows work.now) (length work.now)) }
 {
+    recurrence_keeps_laws();
     let mut entries = Vec::with_capacity(alloc, work.len())?;
     for s in 0..work.len() {
         match panel_entry(work[s], &entries, s / 6, s % 6) {

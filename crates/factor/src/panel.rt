@@ -1,5 +1,6 @@
 ghost use Rattle.std.specs.Prelude.{◌≡◌, ℕ, ◌+◌, ◌*◌, ◌<◌, ◌≤◌, IfOk, MatchResult, length, slice_index, []};
-ghost use Rattle.factor.specs.State.{IsProblem, matrix_of, ArePanels, IsRowPattern, IsFront, IsNodePanel, IsSchurComplement, AreChildSums, is_parent, IsWithParent};
+ghost use Rattle.factor.specs.State.{IsProblem, matrix_of, ArePanels, IsRowPattern, IsFront, IsNodePanel, IsSchurComplement, AreChildSums, IsWithParent};
+ghost use Rattle.elimination.specs.Elimination.{is_parent};
 ghost use Rattle.factor.specs.Scalar.{IsBreakdownAt, fault_of};
 
 use crate::eliminate::{Breakdown, eliminate};
@@ -8,6 +9,7 @@ use crate::front::places_of;
 use crate::gather::{add_squares, gather};
 use crate::scatter::{Problem, scatter};
 use crate::squares::add_own;
+use cholesky_laws::recurrence_keeps_laws;
 use lists::{Permutation, insert_later, insert_rising};
 use std::alloc::{AllocError, Global};
 
@@ -38,6 +40,7 @@ pub fn eliminate_node(
         (λ p. IsNodePanel (matrix_of problem.now.matrix.now problem.now.order.now problem.now.shift) problem.now.parents.now (length problem.now.order.now) node p.nodes.items p.entries.items p.sums.items)
         (IsBreakdownAt (matrix_of problem.now.matrix.now problem.now.order.now problem.now.shift) problem.now.order.now problem.now.parents.now node) }
 {
+    recurrence_keeps_laws();
     let nodes = front(alloc, problem, panels, row_pattern, node)?;
     let work = schur_complement(alloc, problem, &nodes, panels, row_pattern, node)?;
     let entries = match eliminate(alloc, &work) {
@@ -123,6 +126,7 @@ fn schur_complement(
     requires front { IsFront problem.now.matrix.now problem.now.order.now problem.now.parents.now panels.now row_pattern.now node nodes.now }
     ensures { IfOk result (λ work. IsSchurComplement (matrix_of problem.now.matrix.now problem.now.order.now problem.now.shift) (length problem.now.order.now) node nodes.now work.items) }
 {
+    recurrence_keeps_laws();
     let mut work = scatter(alloc, problem, nodes, node)?;
     for &earlier in row_pattern {
         let panel = &panels[earlier as usize];
@@ -147,6 +151,7 @@ fn child_sums(
     requires front { IsFront problem.now.matrix.now problem.now.order.now problem.now.parents.now panels.now row_pattern.now node nodes.now }
     ensures { IfOk result (λ sums. AreChildSums (matrix_of problem.now.matrix.now problem.now.order.now problem.now.shift) problem.now.parents.now (length problem.now.order.now) node nodes.now sums.items) }
 {
+    recurrence_keeps_laws();
     let mut sums = vec![in alloc; 0; 6 * nodes.len()]?;
     for &earlier in row_pattern {
         if is_child(problem.parents, earlier, node) {

@@ -8,19 +8,22 @@ ghost use Rattle.factor.specs.State.{IsProblem, matrix_of};
 ghost use Rattle.elimination.specs.Elimination.{AreParents};
 ghost use Rattle.factor.specs.Columns.{ArePanelShapes, HasColumns, AreColumnRows, AreColumnValues};
 ghost use Rattle.lists.specs.Lists.{ListsInAll};
+ghost use Rattle.factor_data.specs.Columns.{HasDiagonal};
 ghost use Rattle.factor.specs.Scalar.{IsFactorOf, IsBreakdown};
 
 use crate::fault::ScalarFault;
 use crate::panel::{Panel, eliminate_node};
 use crate::scatter::Problem;
+use cholesky_laws::recurrence_keeps_laws;
 use factor_data::Factor;
 use lists::{Permutation, empty_lists, list_in_all};
 use std::alloc::{AllocError, Global};
 use sym_blocks::SymBlocks;
 
 /// The factor of the integer Cholesky recurrence of a matrix at a shift, in an order of its nodes, or the recurrence's
-/// first breakdown. `parents` has the parent of each place of the order in the tree of the elimination. One node after
-/// another, each from the columns that reach it: the plain program that faster ones are compared with.
+/// first breakdown. Each entry on the factor's diagonal is positive. `parents` has the parent of each place of the order in
+/// the tree of the elimination. One node after another, each from the columns that reach it: the plain program that faster
+/// ones are compared with.
 pub fn scalar(
     alloc: Global,
     k: &SymBlocks,
@@ -36,10 +39,12 @@ pub fn scalar(
     requires shift_high { shift ≤ℤ pos (2 ^ 44) }
     requires parents_count { length parents.now ≡ length order.now }
     requires parents_later { AreParents parents.now (length order.now) }
-    ensures { MatchResult result
+    ensures diagonal { IfOk result HasDiagonal }
+    ensures factor { MatchResult result
         (IsFactorOf (matrix_of k.now order.now shift) order.now parents.now)
         (IsBreakdown (matrix_of k.now order.now shift) order.now parents.now) }
 {
+    recurrence_keeps_laws();
     let permutation = Permutation::new(alloc, Vec::from_slice(alloc, order)?)?;
     let problem = Problem {
         matrix: k,
@@ -57,6 +62,7 @@ fn eliminate_all(alloc: Global, problem: &Problem) -> Result<Factor, ScalarFault
         (IsFactorOf (matrix_of problem.now.matrix.now problem.now.order.now problem.now.shift) problem.now.order.now problem.now.parents.now)
         (IsBreakdown (matrix_of problem.now.matrix.now problem.now.order.now problem.now.shift) problem.now.order.now problem.now.parents.now) }
 {
+    recurrence_keeps_laws();
     let mut row_patterns = empty_lists(alloc, problem.order.len())?;
     let mut panels = Vec::with_capacity(alloc, problem.order.len())?;
     for node in 0..problem.order.len() {

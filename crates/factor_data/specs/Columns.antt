@@ -1,5 +1,5 @@
 -- The columns of a lower triangular factor.
-use Rattle.std.specs.Prelude.{◌≡◌, ℕ, ◌*◌, ◌<◌, ◌≤◌, List, [], length, slice_index, slice_index_or, Contains, nat_eq, if◌then◌else◌, ℤ, pos}
+use Rattle.std.specs.Prelude.{◌≡◌, ℕ, ◌*◌, ◌<◌, ◌≤◌, List, [], length, slice_index, slice_index_or, Contains, nat_eq, if◌then◌else◌, ℤ, pos, ◌<ℤ◌}
 use Rattle.int_laws.specs.Sums.{sum_below}
 use Rattle.lists.specs.Rising.{IsRising}
 use Rattle.lists.specs.Order.{IsOrder}
@@ -42,3 +42,7 @@ pub record IsFactor (f : ColumnLists) : Type 0 where
   pub rising : (j : ℕ) → IsRising (column_rows f j)
   pub lower : (i j : ℕ) → Contains (column_rows f j) i → j ≤ i
   pub in_range : (i j : ℕ) → Contains (column_rows f j) i → i < 6 * length f.order
+
+-- each entry on the diagonal is positive
+abbrev pub HasDiagonal : ColumnLists → Type 0
+HasDiagonal f = (j : ℕ) → j < 6 * length f.order → pos 0 <ℤ factor_entry f j j

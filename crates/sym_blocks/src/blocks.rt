@@ -44,6 +44,7 @@ impl SymBlocks {
         ensures nodes { IfOk result (λ m. node_count m ≡ nodes) }
         ensures pattern { IfOk result (λ m. (n k : ℕ) → HasBlock m n k ↔ IsLinked nodes pairs.now n k) }
         ensures zero { IfOk result (λ m. (i j : ℕ) → entry m i j ≡ pos 0) }
+        ensures kept { IfOk result IsSymmetricByBlocks }
     {
         let mut neighbours = own_lists(alloc, nodes)?;
         link_pairs(&mut neighbours, pairs)?;
@@ -54,6 +55,7 @@ impl SymBlocks {
     /// The entry in a row and a column, and 0 outside the pattern.
     pub fn get(&self, row: u32, col: u32) -> i128
         ensures value { result ≡ entry self.now row col }
+        ensures kept { IsSymmetricByBlocks self.now }
     {
         match find_rising(self.pattern(row / 6), col / 6) {
             Some(place) => self.blocks[(row / 6) as usize][place][(row % 6) as usize][(col
@@ -66,7 +68,8 @@ impl SymBlocks {
     pub fn add(&mut self, row: u32, col: u32, v: i128)
         requires in_pattern { HasBlock self.old (row / 6) (col / 6) }
         requires small { unsigned_abs (entry self.old row col +ℤ v) < 2 ^ 126 }
-        ensures { AddsAt self.old self.new row col v }
+        ensures added { AddsAt self.old self.new row col v }
+        ensures kept { IsSymmetricByBlocks self.new }
     {
         add_both(&self.neighbours, &mut self.blocks, row, col, v);
     }

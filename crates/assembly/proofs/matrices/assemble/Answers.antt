@@ -58,3 +58,6 @@ returns-clause-radii c =
     all_not_negative c.args.b.now c.requires.built c.loop-row.middles c.loop-row.radii c.pattern-middles_nodes.ensures.kept c.pattern-radii_nodes.ensures.kept
     c.loop-row.invariant.middles_pattern c.loop-row.invariant.radii_pattern
     (λ i j inside. c.loop-row.invariant.filled i j (omega (arith, inside, ap (λ (xs : List (List ℕ)). length xs) c.as_slice.ensures)))
+
+pub returns-clause-kept : goal.returns-clause-kept
+returns-clause-kept c = (c.pattern-middles_nodes.ensures.kept, c.pattern-radii_nodes.ensures.kept)

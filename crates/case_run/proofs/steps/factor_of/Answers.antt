@@ -1,13 +1,9 @@
 use Rattle.std.proofs.Common.{to_z-of_z}
 use Rattle.std.proofs.lemmas.Result.{err_from_is_err_and}
-use Rattle.case_run.proofs.Diagonal.{diagonal_positive}
 use Rattle.case_run.proofs.Faults.{names_breakdown}
 use Rattle.case_run.proofs.steps.factor_of.Goals as goal
 
 pub returns-in_err-scalar-clause-cause : goal.returns-in_err-scalar-clause-cause
 returns-in_err-scalar-clause-cause c =
     let p = err_from_is_err_and c.from_residual.result c.from_residual.ensures.1 in
-    rw (p.1, p.2) (names_breakdown _ _ _ _ (rw (to_z-of_z c.ranges.shift) at c.in_err-scalar.ensures))
-
-pub returns-clause-diagonal : goal.returns-clause-diagonal
-returns-clause-diagonal c = diagonal_positive _ _ _ _ c.in_ok-scalar.ensures
+    rw (p.1, p.2) (names_breakdown _ _ _ _ (rw (to_z-of_z c.ranges.shift) at c.in_err-scalar.ensures.factor))

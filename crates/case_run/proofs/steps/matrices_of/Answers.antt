@@ -10,7 +10,7 @@ returns-in_err-middles-clause-cause c =
 
 pub returns-clause-factorable : goal.returns-clause-factorable
 returns-clause-factorable c =
-    let kept = c.pattern-middles_nodes.ensures.kept in
+    let kept = c.in_ok-middles.ensures.kept.0 in
     let assembled = c.in_ok-middles.ensures.matrices in
     record {
       nodes_are = assembled.middles_nodes;
@@ -19,7 +19,7 @@ returns-clause-factorable c =
 
 pub returns-clause-radii : goal.returns-clause-radii
 returns-clause-radii c =
-    let kept = c.pattern-radii_nodes.ensures.kept in
+    let kept = c.in_ok-middles.ensures.kept.1 in
     let assembled = c.in_ok-middles.ensures.matrices in
     record {
       nodes_are = assembled.radii_nodes;

@@ -8,7 +8,7 @@ pub returns-clause-parents : goal.returns-clause-parents
 returns-clause-parents c pairs order t is = parents_are (placed (links pairs) order) order t is
 
 pub returns-clause-fill : goal.returns-clause-fill
-returns-clause-fill c = fill_in_rows
+returns-clause-fill c = fill_in_rows c.recurrence_keeps_laws.ensures
 
 pub returns-clause-stiffness : goal.returns-clause-stiffness
 returns-clause-stiffness c = stiffness_on_pattern

@@ -72,7 +72,7 @@ add_squares-requires-clause-squares_small c q r reaches le rl =
     let P : List ℕ → List ℤ → Type 0 = λ xs ys. unsigned_abs (kept_for 6 xs ys q r) < 2 ^ 120 in
     subst (λ (xs : List ℕ). P xs c.deref-then-is_child.result.now) (sym nodes)
     (subst (λ (ys : List ℤ). P (nodes_at c.args.panels.now d) ys) (sym sums)
-    (panel_sums_small a p.parents.now (length p.order.now) d c.args.node q r (nodes_at c.args.panels.now d) (entries_at c.args.panels.now d) (sums_at c.args.panels.now d) earlier.0 le rl reaches' known.panel known.passes))
+    (panel_sums_small c.recurrence_keeps_laws.ensures a p.parents.now (length p.order.now) d c.args.node q r (nodes_at c.args.panels.now d) (entries_at c.args.panels.now d) (sums_at c.args.panels.now d) earlier.0 le rl reaches' known.panel known.passes))
 
 pub add_squares-requires-clause-sums_small : goal.add_squares-requires-clause-sums_small
 add_squares-requires-clause-sums_small c =
@@ -84,7 +84,7 @@ add_squares-requires-clause-sums_small c =
     let holds = c.loop-earlier.invariant.1 d (gap_at c.args.row_pattern.now c.args.node i (below c.args.panels.now c.args.node c.args.node c.args.row_pattern.now c.requires.row_pattern) c.loop-earlier-test.true) in
     let P : List ℤ → Type 0 = λ xs. All (λ x. unsigned_abs x < 2 ^ 126) xs in
     subst P (sym c.deref_mut.ensures.value)
-    (children_small a p.parents.now (length p.order.now) c.args.node d c.args.nodes.now c.loop-earlier.sums.items c.requires.problem.few (omega (arith, earlier.0)) c.requires.node_in
+    (children_small c.recurrence_keeps_laws.ensures a p.parents.now (length p.order.now) c.args.node d c.args.nodes.now c.loop-earlier.sums.items c.requires.problem.few (omega (arith, earlier.0)) c.requires.node_in
     (λ e lt. (c.requires.panels.known e lt).passes) c.requires.front.rising c.requires.front.from_own c.loop-earlier.invariant.0 holds)
 
 pub loop-earlier-preserved : goal.loop-earlier-preserved

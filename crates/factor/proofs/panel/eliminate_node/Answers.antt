@@ -3,7 +3,6 @@ use Rattle.std.specs.Int.RustNames.{unsigned_abs}
 use Rattle.std.specs.Vec.{with_items}
 use Rattle.std.proofs.lemmas.List.{with_items_is}
 use Rattle.sym_blocks.specs.Matrix.{entry as stiffness}
-use Rattle.cholesky_laws.proofs.BoundLemmas.{scaled_stiffness-small}
 use Rattle.factor.specs.Panel.{by_rows}
 use Rattle.factor.specs.Eliminate.{IsEliminated, IsPanelBreakdown}
 use Rattle.factor.specs.State.{matrix_of}
@@ -23,8 +22,8 @@ eliminate-requires-clause-small c =
     let w = c.in_ok-work.ensures in
     let P : List ℤ → Type 0 = λ xs. All (λ x. unsigned_abs x < 2 ^ 126) xs in
     subst P (sym c.deref-2.ensures.value)
-    (left_small a p.parents.now (length p.order.now) c.args.node c.args.node c.deref.result.now c.in_ok-work.work.items q.few (omega arith) c.requires.node_in
-    (scaled_stiffness-small (stiffness p.matrix.now) p.order.now p.shift q.small q.shift_low q.shift_high)
+    (left_small c.recurrence_keeps_laws.ensures a p.parents.now (length p.order.now) c.args.node c.args.node c.deref.result.now c.in_ok-work.work.items q.few (omega arith) c.requires.node_in
+    (c.recurrence_keeps_laws.ensures.sizes.stiffness (stiffness p.matrix.now) p.order.now p.shift q.small q.shift_low q.shift_high)
     (λ d lt. (c.requires.panels.known d lt).passes) (rw c.deref.ensures.value f.rising) (rw c.deref.ensures.value f.from_own) w.whole w.holds)
 
 pub eliminate-requires-clause-diagonal : goal.eliminate-requires-clause-diagonal
@@ -33,7 +32,7 @@ eliminate-requires-clause-diagonal c d dl =
     let q = c.requires.problem in
     let w = rw c.deref.ensures.value at c.in_ok-work.ensures in
     rw c.deref-2.ensures.value
-    (diagonal_low (scaled_stiffness-small (stiffness p.matrix.now) p.order.now p.shift q.small q.shift_low q.shift_high) (front_own c.in_ok-nodes.ensures) w d dl)
+    (diagonal_low c.recurrence_keeps_laws.ensures (c.recurrence_keeps_laws.ensures.sizes.stiffness (stiffness p.matrix.now) p.order.now p.shift q.small q.shift_low q.shift_high) (front_own c.in_ok-nodes.ensures) w d dl)
 
 pub returns-in-Err : goal.returns-in-Err
 returns-in-Err c =
@@ -42,7 +41,7 @@ returns-in-Err c =
     let w = rw c.deref.ensures.value at c.in_ok-work.ensures in
     let P : List ℤ → Type 0 = λ xs. IsPanelBreakdown (by_rows xs) (length xs) c.in-Err.breakdown in
     rw c.fault_at.ensures
-    (node_breakdown a p.order.now p.parents.now c.args.node c.in_ok-nodes.nodes.items c.in_ok-work.work.items c.in-Err.breakdown c.requires.node_in
+    (node_breakdown c.recurrence_keeps_laws.ensures a p.order.now p.parents.now c.args.node c.in_ok-nodes.nodes.items c.in_ok-work.work.items c.in-Err.breakdown c.requires.node_in
     (λ d lt. (c.requires.panels.known d lt).passes) (front_own c.in_ok-nodes.ensures) w (subst P c.deref-2.ensures.value c.in-Err.ensures))
 
 pub add_own-requires-clause-sums_small : goal.add_own-requires-clause-sums_small
@@ -54,7 +53,7 @@ add_own-requires-clause-sums_small c =
     let s = rw c.deref-3.ensures.value at c.in_ok-sums.ensures in
     let P : List ℤ → Type 0 = λ xs. All (λ x. unsigned_abs x < 2 ^ 126) xs in
     subst P (sym c.deref_mut.ensures.value)
-    (children_small a p.parents.now (length p.order.now) c.args.node c.args.node nodes c.in_ok-sums.sums.items c.requires.problem.few (omega arith) c.requires.node_in
+    (children_small c.recurrence_keeps_laws.ensures a p.parents.now (length p.order.now) c.args.node c.args.node nodes c.in_ok-sums.sums.items c.requires.problem.few (omega arith) c.requires.node_in
     (λ d lt. (c.requires.panels.known d lt).passes) f.rising f.from_own s.whole s.holds)
 
 pub returns-then-not-add_own : goal.returns-then-not-add_own
@@ -72,8 +71,8 @@ returns-then-not-add_own c =
       record {
         node = c.requires.node_in;
         nodes_before = λ d lt. (c.requires.panels.known d lt).passes;
-        pivots = λ j at. node_pivots f w 6 (omega arith) e.pivots j at.0 at.1;
-        wide = inr (wide_row f w e s wide);
+        pivots = λ j at. node_pivots c.recurrence_keeps_laws.ensures f w 6 (omega arith) e.pivots j at.0 at.1;
+        wide = inr (wide_row c.recurrence_keeps_laws.ensures f w e s wide);
       },
     )
 
@@ -95,7 +94,7 @@ returns c =
     in
     rw after
     record {
-      panel = node_panel c.requires.node_in f w e s len adds;
+      panel = node_panel c.recurrence_keeps_laws.ensures c.requires.node_in f w e s len adds;
       parent = front.parent;
-      passes = node_passes c.requires.node_in f w e s len adds;
+      passes = node_passes c.recurrence_keeps_laws.ensures c.requires.node_in f w e s len adds;
     }

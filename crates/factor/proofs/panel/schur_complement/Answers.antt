@@ -4,7 +4,6 @@ use Rattle.std.specs.Vec.{with_items}
 use Rattle.std.proofs.lemmas.List.{with_items_is}
 use Rattle.std.proofs.lemmas.List.Elements.{Contains-get_or, All-contains}
 use Rattle.lists.proofs.PlaceLemmas.{length-rising}
-use Rattle.cholesky_laws.proofs.BoundLemmas.{scaled_stiffness-small}
 use Rattle.sym_blocks.specs.Matrix.{entry}
 use Rattle.factor.specs.Panel.{kept_for, AllSmall}
 use Rattle.factor.specs.Gather.{block_product}
@@ -24,7 +23,7 @@ pub loop-earlier-init : goal.loop-earlier-init
 loop-earlier-init c =
     let p = c.args.problem.now in
     let a = matrix_of p.matrix.now p.order.now p.shift in
-    let start = scattered_holds p.matrix.now p.order.now p.parents.now p.shift c.args.panels.now c.args.row_pattern.now c.args.nodes.now c.args.node c.in_ok-work.work.items c.requires.node_in c.requires.front c.in_ok-work.ensures in (
+    let start = scattered_holds c.recurrence_keeps_laws.ensures p.matrix.now p.order.now p.parents.now p.shift c.args.panels.now c.args.row_pattern.now c.args.nodes.now c.args.node c.in_ok-work.work.items c.requires.node_in c.requires.front c.in_ok-work.ensures in (
       c.in_ok-work.ensures.whole,
       λ m gap. holds_first a p.parents.now (length p.order.now) c.args.node m c.args.panels.now c.args.row_pattern.now c.args.nodes.now c.in_ok-work.work.items c.requires.panels c.requires.row_pattern c.requires.node_in start gap,
     )
@@ -85,8 +84,8 @@ gather-requires-clause-work_small c =
     let few = c.requires.problem in
     let P : List ℤ → Type 0 = λ xs. All (λ x. unsigned_abs x < 2 ^ 126) xs in
     subst P (sym c.deref_mut.ensures.value)
-    (left_small a p.parents.now (length p.order.now) c.args.node d c.args.nodes.now c.loop-earlier.work.items few.few (omega (arith, earlier.0)) c.requires.node_in
-    (scaled_stiffness-small (entry p.matrix.now) p.order.now p.shift few.small few.shift_low few.shift_high)
+    (left_small c.recurrence_keeps_laws.ensures a p.parents.now (length p.order.now) c.args.node d c.args.nodes.now c.loop-earlier.work.items few.few (omega (arith, earlier.0)) c.requires.node_in
+    (c.recurrence_keeps_laws.ensures.sizes.stiffness (entry p.matrix.now) p.order.now p.shift few.small few.shift_low few.shift_high)
     (λ e lt. (c.requires.panels.known e lt).passes) c.requires.front.rising c.requires.front.from_own c.loop-earlier.invariant.0 holds)
 
 pub loop-earlier-preserved : goal.loop-earlier-preserved

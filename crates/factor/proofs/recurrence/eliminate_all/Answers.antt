@@ -95,7 +95,7 @@ returns c =
     let end : c.loop-node.node ≡ size = omega arith in
     let P : ℕ → Type 0 = λ n. ArePanels a p.parents.now size n c.loop-node.panels.items in
     let Q : List Panel → Type 0 = λ ps. HasColumns p.order.now ps c.in_ok-columns.field-0 in
-    factor_is a p.order.now p.parents.now c.loop-node.panels.items c.in_ok-columns.field-0 (subst P end c.loop-node.invariant.0) (subst Q c.deref-2.ensures.value c.in_ok-columns.ensures)
+    factor_is c.recurrence_keeps_laws.ensures a p.order.now p.parents.now c.loop-node.panels.items c.in_ok-columns.field-0 (subst P end c.loop-node.invariant.0) (subst Q c.deref-2.ensures.value c.in_ok-columns.ensures)
 
 pub eliminate_node-requires-clause-panels : goal.eliminate_node-requires-clause-panels
 eliminate_node-requires-clause-panels c = rw c.deref.ensures.value c.loop-node.invariant.0

@@ -26,5 +26,5 @@ returns c =
       reached = found.ensures.answers;
       written = written;
       ends = subst (λ answers. EndsWith answers c.ending_with-status.result) c.deref.ensures.value c.ending_with-status.ensures;
-      told = report_told c.printed_pairs_hold.ensures c.elements_have_eight_members.ensures model found.answers.items c.in_ok-bytes.bytes.items c.requires.anchors found.ensures.answers.one_each found.ensures.hold written;
+      told = report_told c.printed_pairs_hold.ensures c.elements_have_their_members.ensures model found.answers.items c.in_ok-bytes.bytes.items c.requires.anchors found.ensures.answers.one_each found.ensures.hold written;
     }

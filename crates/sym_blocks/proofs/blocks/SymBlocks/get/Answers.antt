@@ -26,10 +26,12 @@ returns-in-Some c =
           ∙ to_z-of_z w128 old (fits_small old (layout.small c.args.row c.args.col))
           ∙ sym (entry-stored_matrix lists blocks layout c.args.row c.args.col)
           ∙ ap (λ (m : Matrix). entry m c.args.row c.args.col) c.self.view_is;
+      kept = c.pattern.ensures.kept;
     }
 
 pub returns-in-None : goal.returns-in-None
 returns-in-None c =
     record {
       value = sym (c.pattern.ensures.kept.outside c.args.row c.args.col (rw c.pattern.ensures.value at c.in-None.ensures));
+      kept = c.pattern.ensures.kept;
     }

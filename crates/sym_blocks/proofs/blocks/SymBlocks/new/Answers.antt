@@ -5,6 +5,7 @@ use Rattle.std.specs.Vec.{with_items}
 use Rattle.std.proofs.lemmas.List.{with_items_is}
 use Rattle.sym_blocks.specs.Storage.{own_lists_of, zero_blocks_of}
 use Rattle.lists.specs.Lists.{LinksLists}
+use Rattle.sym_blocks.proofs.StorageLemmas.{IsSymmetricByBlocks-stored_matrix}
 use Rattle.sym_blocks.proofs.NewLemmas.{length-own_lists_of, IsStorage-new, IsRising-own, entry-zero, members_linked}
 use Rattle.sym_blocks.proofs.blocks.SymBlocks.new.Goals as goal
 
@@ -52,3 +53,8 @@ pub returns-clause-zero : goal.returns-clause-zero
 returns-clause-zero c i j =
     let m = made c in
     rw (m.lists, m.blocks) (entry-zero (contents c.link_pairs.new.lists) (IsStorage-new c.args.nodes _ c.args.pairs.now c.requires m.links) i j)
+
+pub returns-clause-kept : goal.returns-clause-kept
+returns-clause-kept c =
+    let m = made c in
+    rw (m.lists, m.blocks) (IsSymmetricByBlocks-stored_matrix _ _ (IsStorage-new c.args.nodes _ c.args.pairs.now c.requires m.links))

@@ -1,4 +1,4 @@
--- The fill of an elimination: where the factor can have entries, and which columns a column depends on.
+-- The fill of an elimination: where the factor can have entries.
 use Rattle.std.proofs.Common.{◌≡◌, ℕ, zero, suc, ◌+◌, ◌-◌, ◌*◌, ◌/◌, ◌<◌, ◌≤◌, Bool, true, false, cond, eqb, List, Option, Some, None, ◌∙◌, sym, ap, refl, arith, subst, ◌⊎◌, inl, inr, ℤ, pos, negsuc, ◌-ℤ◌, ◌*ℤ◌}
 use Rattle.std.specs.Prelude.{option_and_then}
 use Rattle.std.proofs.lemmas.Bool.{cases_lt, cases_eq, eq-eqb, ne_eqb, false≢true}
@@ -9,10 +9,9 @@ use Rattle.int_laws.proofs.Products.{mul_comm, zero-mul}
 use Rattle.int_laws.proofs.SumLaws.{sum_below-zero, sum_below-same}
 use Rattle.cholesky_laws.specs.Recurrence.{cholesky, left_after}
 use Rattle.elimination.specs.Elimination.{IsLaterNeighbour, IsParent, IsTree, parent_of, met_from, is_in_subtree}
-use Rattle.elimination.proofs.JoinedLemmas.{later_from_linked, later_closed}
+use Rattle.elim_tree.proofs.JoinedLemmas.{later_from_linked, later_closed}
+use Rattle.cholesky_laws.specs.Laws.{RecurrenceLaws}
 use Rattle.cholesky_laws.specs.Fill.{IsOnPattern}
-use Rattle.cholesky_laws.proofs.BoundLemmas.{cholesky-zero}
-use Rattle.cholesky_laws.proofs.SubtreeLemmas.{picked, names, met_from-late, is_in_subtree-own}
 
 -- ---- where the factor has entries
 cases_zero : (z : ℤ) → (z ≡ pos 0) ⊎ (z ≡ pos 0 → ⊥)
@@ -49,23 +48,23 @@ term_none a linked size k m i lt before in' past absent =
           ]
     ]
 
-no_fill_next : (a : ℕ → ℕ → ℤ) (linked : ℕ → ℕ → Type 0) (size k : ℕ) → IsOnPattern a linked size → ((m : ℕ) → m < k → HasNoFill a linked size m) → HasNoFill a linked size k
+no_fill_next : RecurrenceLaws → (a : ℕ → ℕ → ℤ) (linked : ℕ → ℕ → Type 0) (size k : ℕ) → IsOnPattern a linked size → ((m : ℕ) → m < k → HasNoFill a linked size m) → HasNoFill a linked size k
 unfolding left_after
-no_fill_next a linked size k on before i in' past absent =
+no_fill_next laws a linked size k on before i in' past absent =
     let own = on i k in' past (λ h. absent (later_from_linked linked (k / 6) (i / 6) past h)) in
     let taken = sum_below-zero k (λ m. cholesky a i m *ℤ cholesky a k m) (λ m lt. term_none a linked size k m i lt (before m lt) in' past absent) in
     let none : left_after a k i k ≡ pos 0 = omega (arith, int_sums) in
-    cholesky-zero a i k (omega arith) none
+    laws.entries.nothing_left a i k (omega arith) none
 
-no_fill_below : (a : ℕ → ℕ → ℤ) (linked : ℕ → ℕ → Type 0) (size : ℕ) → IsOnPattern a linked size → (n k : ℕ) → k < n → HasNoFill a linked size k
-no_fill_below a linked size on zero k lt = absurd (omega arith)
-no_fill_below a linked size on (suc n) k lt =
+no_fill_below : RecurrenceLaws → (a : ℕ → ℕ → ℤ) (linked : ℕ → ℕ → Type 0) (size : ℕ) → IsOnPattern a linked size → (n k : ℕ) → k < n → HasNoFill a linked size k
+no_fill_below laws a linked size on zero k lt = absurd (omega arith)
+no_fill_below laws a linked size on (suc n) k lt =
     elim (cases_lt k n) [
-      | inl before ↦ no_fill_below a linked size on n k before
-      | inr here ↦ no_fill_next a linked size k on (λ m ml. no_fill_below a linked size on n m (omega arith))
+      | inl before ↦ no_fill_below laws a linked size on n k before
+      | inr here ↦ no_fill_next laws a linked size k on (λ m ml. no_fill_below laws a linked size on n m (omega arith))
     ]
 
 -- the factor of a matrix on a graph's pattern has entries in a column only in its own node's rows and in those of the
 -- nodes that are its neighbours when it is eliminated
-pub no_fill : (a : ℕ → ℕ → ℤ) (linked : ℕ → ℕ → Type 0) (size : ℕ) → IsOnPattern a linked size → (k : ℕ) → HasNoFill a linked size k
-no_fill a linked size on k = no_fill_below a linked size on (suc k) k (omega arith)
+pub no_fill : RecurrenceLaws → (a : ℕ → ℕ → ℤ) (linked : ℕ → ℕ → Type 0) (size : ℕ) → IsOnPattern a linked size → (k : ℕ) → HasNoFill a linked size k
+no_fill laws a linked size on k = no_fill_below laws a linked size on (suc k) k (omega arith)
