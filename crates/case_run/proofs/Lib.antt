@@ -17,3 +17,4 @@ pub mod GivenMargin
 pub mod GivenTurns
 pub mod GivenBounds
 pub mod GivenStructure
+pub mod Chained
