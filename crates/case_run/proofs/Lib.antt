@@ -10,3 +10,10 @@ pub mod SameVerdicts
 pub mod SameStructures
 pub mod SameMargins
 pub mod SameAnswers
+pub mod Searching
+pub mod GivenFactor
+pub mod GivenMargin
+pub mod GivenTurns
+pub mod GivenBounds
+pub mod GivenStructure
+pub mod Chained

@@ -1,5 +1,5 @@
 -- What all cases share: the factor's shape, and that the structures and loads of a model have the same realisations.
-use Rattle.std.proofs.Common.{◌≡◌, ℕ, ◌*◌, ◌<◌, ap, ◌∙◌, sym, arith, List, Result, Ok, Err, length}
+use Rattle.std.proofs.Common.{◌≡◌, ℕ, ◌*◌, ◌<◌, ap, ◌∙◌, sym, subst, arith, List, Result, Ok, Err, length}
 use Rattle.std.proofs.Math.ListN.{length-replicate}
 use Rattle.std.specs.Prelude.{IfOk, MatchResult, ℤ}
 use Rattle.flex_interval.specs.Ends.{Ends}
@@ -11,6 +11,7 @@ use Rattle.member_set.specs.Realisation.{Realisation, IsRealisation}
 use Rattle.model_types.specs.Lists.{Lists}
 use Rattle.model_types.specs.declared.answers.Cause.{Cause}
 use Rattle.sym_blocks.specs.Matrix.{Matrix}
+use Rattle.lists.specs.Order.{IsOrder}
 use Rattle.structure.specs.Structure.{IsStructureOf}
 use Rattle.load_vectors.specs.Loads.{AreLoads}
 use Rattle.case_run.specs.Causes.{Plan, resting_laws, IsFactorAt}
@@ -18,10 +19,10 @@ use Rattle.factor_data.specs.Columns.{ColumnLists, HasDiagonal}
 use Rattle.case_run.specs.Steps.{IsFactorFor}
 
 pub factor_for : (b : Built) (p : Plan) (middles : Matrix) (shift : ℤ) (Q : Cause → Type 0) (r : Result ColumnLists Cause) →
-    length p.order ≡ nodes_of b → MatchResult r (IsFactorAt p middles shift) Q → IfOk r HasDiagonal → IfOk r (IsFactorFor b)
-factor_for b p middles shift Q (Ok f) nodes factor diagonal =
-    record { nodes_are = ap (λ (xs : List ℕ). length xs) factor.order_is ∙ nodes; diagonal = diagonal }
-factor_for b p middles shift Q (Err cause) nodes factor diagonal = diagonal
+    length p.order ≡ nodes_of b → IsOrder p.order → MatchResult r (IsFactorAt p middles shift) Q → IfOk r HasDiagonal → IfOk r (IsFactorFor b)
+factor_for b p middles shift Q (Ok f) nodes ordered factor diagonal =
+    record { ordered = subst (λ (o : List ℕ). IsOrder o) (sym factor.order_is) ordered; nodes_are = ap (λ (xs : List ℕ). length xs) factor.order_is ∙ nodes; diagonal = diagonal }
+factor_for b p middles shift Q (Err cause) nodes ordered factor diagonal = diagonal
 
 -- the structure with its laws and loads is a system
 pub is_system : (m : Lists) (case : ℕ) (b : Built) (laws : List Law) (loads : List Ends) →

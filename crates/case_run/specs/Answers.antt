@@ -100,7 +100,7 @@ enclosure_in m p case shared =
 
 -- bounds of each displacement, and of the force of each member from `first` on; or the reason why there are none
 abbrev pub answer_with : ℕ → Result Enclosure Reason → CaseAnswer
-answer_with first (Ok e) = Certified (map bounds_of e.u) (map bounds_of (drop first e.force)) e.closed
+answer_with first (Ok e) = Certified (map bounds_of e.u) (map bounds_of (drop first e.force)) []
 answer_with first (Err reason) = Uncertified reason.cause reason.guess
 
 -- the answer of a case

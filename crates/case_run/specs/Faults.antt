@@ -1,4 +1,5 @@
 -- The fault of a case that the fault of a step becomes: the cause that it names, or that memory ran out.
+use Rattle.std.specs.Prelude.{Option, Some, None}
 use Rattle.model_types.specs.declared.answers.Cause.TheVariants as causes
 use Rattle.structure.specs.declared.fault.BuildFault.{BuildFault}
 use Rattle.structure.specs.declared.fault.BuildFault.TheVariants as builds
@@ -13,6 +14,7 @@ use Rattle.solve.specs.declared.fault.SolveFault.TheVariants as solutions
 use Rattle.certificate.specs.declared.fault.EncloseFault.{EncloseFault}
 use Rattle.certificate.specs.declared.fault.EncloseFault.TheVariants as enclosures
 use Rattle.case_run.specs.Causes.{width_matrix, width_load}
+use Rattle.case_run.specs.Answers.{Reason, because}
 use Rattle.case_run.specs.declared.fault.CaseFault.{CaseFault}
 use Rattle.case_run.specs.declared.fault.CaseFault.TheVariants.{Because, NoMemory}
 
@@ -46,3 +48,8 @@ solve_fault solutions.NoMemory = NoMemory
 abbrev pub enclose_fault : EncloseFault → CaseFault
 enclose_fault enclosures.Wide = Because causes.WidthResidual
 enclose_fault enclosures.NoMemory = NoMemory
+
+-- the reason that a fault of a case tells; none where memory ran out
+abbrev pub reason_told : CaseFault → Option Reason
+reason_told (Because cause) = Some (because cause)
+reason_told NoMemory = None

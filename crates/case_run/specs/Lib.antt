@@ -1,8 +1,8 @@
 pub mod Causes
 pub mod Steps
+pub mod Answers
 pub mod Faults
 pub mod Certified
 pub mod Equilibria
 pub mod Shared
 pub mod Determined
-pub mod Answers

@@ -1,5 +1,5 @@
 -- What all cases of a model share.
-use Rattle.std.specs.Prelude.{◌≡◌, IfOk, MatchResult, pos, ◌≤ℤ◌}
+use Rattle.std.specs.Prelude.{◌≡◌, IfOk, MatchResult, pos, ◌≤ℤ◌, Ok, Err}
 use Rattle.member_set.specs.Realisation.{Stiffness, IsStiffnessOf}
 use Rattle.model_types.specs.Lists.{Lists}
 use Rattle.sym_blocks.specs.Matrix.{Matrix}
@@ -9,6 +9,9 @@ use Rattle.member_set.specs.Members.{AreStiff}
 use Rattle.case_run.specs.declared.shared.Shared.{Shared}
 use Rattle.case_run.specs.Causes.{Plan, resting_laws, IsFactorAt, IsBreakdownCause}
 use Rattle.case_run.specs.Certified.{IsCertifiable}
+use Rattle.assembly.specs.Stiffness.{middle}
+use Rattle.factor_data.specs.Columns.{factor_entry}
+use Rattle.case_run.specs.Answers.{because, factor_at}
 use Rattle.case_run.specs.Steps.{IsFactorFor}
 
 -- what a case needs of it, whatever the plan was
@@ -19,6 +22,13 @@ pub record IsReady (m : Lists) (s : Shared) : Type 0 where
   pub positive : pos 1 ≤ℤ s.lambda
   pub definite : (k : Stiffness) → IsStiffnessOf s.b (resting_laws s.b) k → IsDefiniteStiffness k s.lambda
   pub factor : IfOk s.factor (IsFactorFor s.b)
+
+-- the factor without a shift, or why there is none, is that of the structure's middles
+abbrev pub HasUnshifted : Plan → Shared → Type 0
+HasUnshifted p s =
+    MatchResult s.factor
+    (λ f. (f.order ≡ p.order) × (factor_at p (middle s.b) (pos 0) ≡ Ok (factor_entry f)))
+    (λ cause. factor_at p (middle s.b) (pos 0) ≡ Err (because cause))
 
 -- a margin of the model, and the factor without a shift or why there is none
 pub record IsShared (m : Lists) (p : Plan) (s : Shared) : Type 0 where

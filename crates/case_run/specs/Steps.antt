@@ -47,4 +47,5 @@ AreDefinite middles radii lambda =
 -- a factor of a structure's nodes with a positive diagonal
 pub record IsFactorFor (b : Built) (f : ColumnLists) : Type 0 where
   pub nodes_are : length f.order ≡ nodes_of b
+  pub ordered : IsOrder f.order
   pub diagonal : HasDiagonal f

@@ -1,8 +1,12 @@
 ghost use Rattle.std.specs.Prelude.{◌≡◌, ◌<◌, ℕ, length, map, drop, replicate, [], IfOk, IfErr, All};
+ghost use Rattle.lists.specs.Listed.{listed};
+ghost use Rattle.lists.specs.Results.{Gives};
+ghost use Rattle.case_run.specs.Answers.{base, enclosure_in, answer_with, answers_of};
+ghost use Rattle.case_run.specs.Faults.{reason_told};
 ghost use Rattle.case_run.specs.Causes.{plan, Plan};
 ghost use Rattle.case_run.specs.Certified.{IsCertified, IsUncertified, IsCaseAnswer, AreCaseAnswers, TellsBounds, bounds_of};
 ghost use Rattle.case_run.specs.Equilibria.{OfEquilibria, HoldsAlways, HoldAlways};
-ghost use Rattle.case_run.specs.Shared.{IsReady, IsShared};
+ghost use Rattle.case_run.specs.Shared.{IsReady, IsShared, HasUnshifted};
 ghost use Rattle.case_run.specs.Steps.{Names};
 ghost use Rattle.certificate.specs.Bounds.{EnclosesEquilibrium};
 ghost use Rattle.elimination.specs.Elimination.{AreParents};
@@ -35,6 +39,7 @@ pub fn answers(
     requires nodes { length order.now ≡ length m.now.nodes }
     requires parents_count { length parents.now ≡ length order.now }
     requires parents_later { AreParents parents.now (length order.now) }
+    ensures given { IfOk result (λ answers. answers.items ≡ answers_of m.now (plan order.now parents.now)) }
     ensures answers { IfOk result (λ answers. AreCaseAnswers m.now (plan order.now parents.now) answers.items) }
     ensures hold { IfOk result (λ answers. HoldAlways m.now answers.items) }
 {
@@ -63,6 +68,8 @@ fn same_answers(alloc: Global, m: &Model, cause: Cause) -> Result<Vec<CaseAnswer
 fn each_answer(alloc: Global, m: &Model, shared: &Shared) -> Result<Vec<CaseAnswer>, AllocError>
     requires forces_alone { (case : ℕ) → case < length m.now.cases → HasForcesAlone (case_at m.now case) }
     requires ready { IsReady m.now shared.now }
+    ensures given { IfOk result (λ answers. (p : Plan) → HasUnshifted p shared.now → answers.items ≡
+        listed (length m.now.cases) (λ case. answer_with (element_member_count m.now) (enclosure_in m.now p case (base shared.now.b shared.now.lambda)))) }
     ensures answers { IfOk result (λ answers. (p : Plan) → IsShared m.now p shared.now → AreCaseAnswers m.now p answers.items) }
     ensures hold { IfOk result (λ answers. HoldAlways m.now answers.items) }
 {
@@ -84,6 +91,8 @@ fn case_answer(
     requires case_in_range { case.0 < length m.now.cases }
     requires forces_alone { HasForcesAlone (case_at m.now case.0) }
     requires ready { IsReady m.now shared.now }
+    ensures given { IfOk result (λ a. (p : Plan) → HasUnshifted p shared.now →
+        a ≡ answer_with (element_member_count m.now) (enclosure_in m.now p case.0 (base shared.now.b shared.now.lambda))) }
     ensures answer { IfOk result (λ a. (p : Plan) → IsShared m.now p shared.now → IsCaseAnswer m.now case.0 p a) }
     ensures holds { IfOk result (HoldsAlways m.now case.0) }
 {
@@ -104,6 +113,7 @@ fn enclosure_of(
     requires case_in_range { case.0 < length m.now.cases }
     requires forces_alone { HasForcesAlone (case_at m.now case.0) }
     requires ready { IsReady m.now shared.now }
+    ensures given { (p : Plan) → HasUnshifted p shared.now → Gives (λ e. e) reason_told (enclosure_in m.now p case.0 (base shared.now.b shared.now.lambda)) result }
     ensures bounds { IfOk result (λ e. (p : Plan) → IsShared m.now p shared.now → IsCertified m.now case.0 p e) }
     ensures encloses { IfOk result (λ e. OfEquilibria m.now case.0 (EnclosesEquilibrium e)) }
     ensures cause { IfErr result (λ f. (p : Plan) → IsShared m.now p shared.now → Names (IsUncertified m.now case.0 p) f) }

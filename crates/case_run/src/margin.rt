@@ -1,4 +1,8 @@
 ghost use Rattle.std.specs.Prelude.{◌≡◌, ◌<◌, ◌≤◌, ℕ, length, IfOk, IfErr, ℤ, pos, ◌≤ℤ◌, ◌^◌};
+ghost use Rattle.lists.specs.Results.{Gives};
+ghost use Rattle.sym_blocks.specs.Matrix.{entry};
+ghost use Rattle.case_run.specs.Answers.{margin_at, margin_of};
+ghost use Rattle.case_run.specs.Faults.{reason_told};
 ghost use Rattle.case_run.specs.Causes.{plan};
 ghost use Rattle.case_run.specs.Certified.{shift_of, last_place, ShiftPasses, ShiftFails, IsMargin, HasNoMargin};
 ghost use Rattle.case_run.specs.Steps.{Names, IsFactorable, IsPlan, AreDefinite, IsRadiusMatrix};
@@ -37,6 +41,7 @@ fn margin_at(
     requires radii { IsRadiusMatrix (length order.now) radii.now }
     requires shift_low { pos 0 ≤ℤ shift }
     requires shift_high { shift ≤ℤ pos (2 ^ 44) }
+    ensures given { Gives (λ lambda. lambda) reason_told (margin_at (plan order.now parents.now) (entry middles.now) (entry radii.now) shift) result }
     ensures passes { IfOk result (ShiftPasses (plan order.now parents.now) middles.now radii.now shift) }
     ensures positive { IfOk result (λ lambda. pos 1 ≤ℤ lambda) }
     ensures definite { IfOk result (AreDefinite middles.now radii.now) }
@@ -64,6 +69,7 @@ pub(crate) fn margin_of(
     requires plan { IsPlan order.now parents.now }
     requires factorable { IsFactorable (length order.now) middles.now }
     requires radii { IsRadiusMatrix (length order.now) radii.now }
+    ensures given { Gives (λ lambda. lambda) reason_told (margin_of (plan order.now parents.now) (entry middles.now) (entry radii.now)) result }
     ensures margin { IfOk result (IsMargin (plan order.now parents.now) middles.now radii.now) }
     ensures positive { IfOk result (λ lambda. pos 1 ≤ℤ lambda) }
     ensures definite { IfOk result (AreDefinite middles.now radii.now) }

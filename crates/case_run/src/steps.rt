@@ -5,9 +5,16 @@ ghost use Rattle.assembly.specs.Stiffness.{AreAssembled, IsWithinRadius};
 ghost use Rattle.sym_blocks.specs.Matrix.{entry};
 ghost use Rattle.elimination.specs.Elimination.{AreParents};
 ghost use Rattle.lists.specs.Order.{IsOrder};
-ghost use Rattle.case_run.specs.Causes.{plan, resting_laws, IsFactorAt, IsMatrixCause, IsBreakdownCause};
-ghost use Rattle.factor_data.specs.Columns.{HasDiagonal};
+ghost use Rattle.case_run.specs.Causes.{plan, resting_laws, IsFactorAt, IsMatrixCause, IsBreakdownCause, IsElementCause};
+ghost use Rattle.factor_data.specs.Columns.{HasDiagonal, factor_entry};
 ghost use Rattle.case_run.specs.Steps.{Names, IsFactorable, IsRadiusMatrix};
+ghost use Rattle.lists.specs.Results.{named, Gives};
+ghost use Rattle.assembly.specs.Stiffness.{matrices_of};
+ghost use Rattle.member_set.specs.Members.{AreStiff};
+ghost use Rattle.structure.specs.Anchors.{HasAnchorsAlone};
+ghost use Rattle.structure.specs.Structure.{IsStructureOf, structure_of};
+ghost use Rattle.case_run.specs.Answers.{element_reason, matrix_reason, factor_at};
+ghost use Rattle.case_run.specs.Faults.{reason_told};
 
 use crate::fault::CaseFault;
 use assembly::assemble;
@@ -15,13 +22,27 @@ use factor::scalar;
 use factor_data::Factor;
 use flex_interval::point;
 use member_set::{Built, Law, laws_keep_stretch};
+use model_types::Model;
 use std::alloc::{AllocError, Global};
+use structure::build;
 use sym_blocks::SymBlocks;
+
+/// The structure of a model whose restraints are anchors.
+pub(crate) fn structure_of(alloc: Global, m: &Model) -> Result<Built, CaseFault>
+    requires anchors { HasAnchorsAlone m.now }
+    ensures given { Gives (λ b. b) reason_told (named element_reason (structure_of m.now)) result }
+    ensures structure { IfOk result (IsStructureOf m.now) }
+    ensures stiff { IfOk result AreStiff }
+    ensures cause { IfErr result (Names (IsElementCause m.now)) }
+{
+    Ok(build(alloc, m)?)
+}
 
 /// The middles and the radii of a structure's matrix.
 pub(crate) fn matrices_of(alloc: Global, b: &Built) -> Result<(SymBlocks, SymBlocks), CaseFault>
     requires built { IsBuilt b.now }
     requires linear { b.now.unilateral ≡ [] }
+    ensures given { Gives (λ m. (entry m.0, entry m.1)) reason_told (named matrix_reason (matrices_of b.now)) result }
     ensures assembled { IfOk result (λ m. AreAssembled b.now m.0 m.1) }
     ensures factorable { IfOk result (λ m. IsFactorable (built_nodes b.now) m.0) }
     ensures radii { IfOk result (λ m. IsRadiusMatrix (built_nodes b.now) m.1) }
@@ -50,11 +71,15 @@ pub(crate) fn factor_of(
     requires shift_high { shift ≤ℤ pos (2 ^ 44) }
     requires parents_count { length parents.now ≡ length order.now }
     requires parents_later { AreParents parents.now (length order.now) }
+    ensures given { Gives (λ f. factor_entry f) reason_told (factor_at (plan order.now parents.now) (entry middles.now) shift) result }
     ensures factor { IfOk result (IsFactorAt (plan order.now parents.now) middles.now shift) }
     ensures diagonal { IfOk result HasDiagonal }
     ensures cause { IfErr result (Names (IsBreakdownCause (plan order.now parents.now) middles.now shift)) }
 {
-    Ok(scalar(alloc, middles, order, parents, shift)?)
+    let factor = scalar(alloc, middles, order, parents, shift)?;
+    // What every factor keeps: it is 0 outside its columns' rows.
+    let _order = factor.order();
+    Ok(factor)
 }
 
 /// The laws of a structure without initial deformations.

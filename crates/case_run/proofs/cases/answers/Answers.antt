@@ -6,6 +6,9 @@ use Rattle.case_run.specs.Causes.{plan}
 use Rattle.case_run.specs.Certified.{IsCaseAnswer, by_model}
 use Rattle.case_run.specs.Equilibria.{HoldsAlways}
 use Rattle.case_run.proofs.Lists.{each_replicate}
+use Rattle.std.proofs.Common.{◌∙◌}
+use Rattle.case_run.specs.Answers.{base}
+use Rattle.case_run.proofs.Chained.{answers_by_base, answers_by_reason}
 use Rattle.case_run.proofs.cases.answers.Goals as goal
 
 pub returns-in-Err-Because-clause-answers : goal.returns-in-Err-Because-clause-answers
@@ -29,3 +32,18 @@ returns-in-Err-Because-clause-hold c =
     (λ answers is.
     rw is (λ case a found. subst (λ (x : CaseAnswer). HoldsAlways c.args.m.now case x) (sym (each_replicate _ _ case a found)) (tt {0})))
     c.same_answers.ensures
+
+pub returns-in-Ok-clause-given : goal.returns-in-Ok-clause-given
+returns-in-Ok-clause-given c =
+    let m = c.args.m.now in
+    let p = plan c.args.order.now c.args.parents.now in
+    IfOk-weaker c.each_answer.result _ _
+    (λ answers are. are p c.in-Ok.ensures.unshifted ∙ sym (answers_by_base m p (base c.in-Ok.shared.b c.in-Ok.shared.lambda) c.in-Ok.ensures.given))
+    c.each_answer.ensures.given
+
+pub returns-in-Err-Because-clause-given : goal.returns-in-Err-Because-clause-given
+returns-in-Err-Because-clause-given c =
+    let m = c.args.m.now in
+    let p = plan c.args.order.now c.args.parents.now in
+    let reason = rw c.in-Err-Because.field-0-is at c.in-Err-Because.ensures.given in
+    IfOk-weaker c.same_answers.result _ _ (λ answers is. is ∙ answers_by_reason m p _ reason) c.same_answers.ensures

@@ -5,6 +5,11 @@ use Rattle.load_vectors.specs.Loads.{AreLoads}
 use Rattle.case_run.specs.Certified.{no_loads, no_unshifted_factor, no_candidate, no_bounds, by_case}
 use Rattle.case_run.proofs.Faults.{names_also, names_load, names_solve, names_residual}
 use Rattle.case_run.proofs.Sharing.{is_system, same_realisations}
+use Rattle.std.proofs.Common.{ℕ, ◌*◌}
+use Rattle.case_run.proofs.GivenStructure.{loads_given}
+use Rattle.case_run.proofs.GivenTurns.{turns_given}
+use Rattle.case_run.proofs.GivenBounds.{bounds_given}
+use Rattle.case_run.proofs.Chained.{tells_also, tells_load, tells_turns, tells_bounds, case_no_loads, case_no_factor, case_no_turns, case_by_bounds, case_bounds, HasFactor, solved}
 use Rattle.case_run.proofs.cases.enclosure_of.Goals as goal
 
 pub candidate-requires-clause-system : goal.candidate-requires-clause-system
@@ -94,3 +99,63 @@ returns-in_err-enclose-clause-cause c =
     })
     is))
     (names_residual _ _ _ _ c.in_err-enclose.field-0.0 (λ is. wide (ap Err is))))
+
+pub returns-in_err-loads-clause-given : goal.returns-in_err-loads-clause-given
+returns-in_err-loads-clause-given c =
+    let fault = err_from_is_err_and c.from_residual.result c.from_residual.ensures.1 in
+    rw (fault.1, fault.2)
+    (λ p unshifted.
+    tells_also _ _ _ (λ e is. case_no_loads c.args.m.now p c.args.case.0 c.args.shared.now.b c.args.shared.now.lambda e is)
+    (tells_load c.args.m.now c.args.case.0 c.in_err-loads.field-0.0 (λ row is. c.in_err-loads.ensures.wide row (ap Err is))))
+
+pub returns-in-Err-clause-given : goal.returns-in-Err-clause-given
+returns-in-Err-clause-given c = λ p unshifted.
+    case_no_factor c.args.m.now p c.args.case.0 c.args.shared.now.b c.args.shared.now.lambda c.in_ok-loads.loads.items _
+    (loads_given c.args.m.now c.args.case.0 c.in_ok-loads.loads.items c.in_ok-loads.ensures.loads) (rw c.in-Err.is at unshifted)
+
+pub returns-in_err-u-clause-given : goal.returns-in_err-u-clause-given
+returns-in_err-u-clause-given c =
+    let fault = err_from_is_err_and c.from_residual-in_err-u.result c.from_residual-in_err-u.ensures.1 in
+    let wide = rw (c.deref.ensures.value, c.requires.ready.laws, c.deref-2.ensures.value) at c.in_err-u.ensures.wide in
+    let loads = c.in_ok-loads.loads.items in
+    let b = c.args.shared.now.b in
+    let fit = rw c.in-Ok.is at c.requires.ready.factor in
+    rw (fault.1, fault.2)
+    (λ p unshifted.
+    let factor = rw c.in-Ok.is at unshifted in
+    let has : HasFactor c.args.m.now p c.args.case.0 b loads c.in-Ok.factor = record { loaded = loads_given c.args.m.now c.args.case.0 loads c.in_ok-loads.ensures.loads; order = factor.0; factor = factor.1 } in
+    tells_also _ _ _ (λ e is. case_no_turns c.args.m.now p c.args.case.0 b c.args.shared.now.lambda loads c.in-Ok.factor e has is)
+    (tells_turns (solved b loads c.in-Ok.factor) c.in_err-u.field-0.0 (record { ordered = fit.ordered; size = ap (λ (n : ℕ). 6 * n) fit.nodes_are }) (λ is. wide (ap Err is))))
+
+pub returns-in_err-enclose-clause-given : goal.returns-in_err-enclose-clause-given
+returns-in_err-enclose-clause-given c =
+    let fits : FitsSigned w128 c.args.shared.now.lambda = search rules in
+    let fault = err_from_is_err_and c.from_residual-in_err-enclose.result c.from_residual-in_err-enclose.ensures.1 in
+    let found = rw (c.deref.ensures.value, c.requires.ready.laws, c.deref-2.ensures.value) at c.in_ok-u.ensures.ok in
+    let wide = rw (c.deref-3.ensures.value, c.requires.ready.laws, c.deref-4.ensures.value, c.deref-5.ensures.value, to_z-of_z fits) at c.in_err-enclose.ensures.wide in
+    let loads = c.in_ok-loads.loads.items in
+    let u = c.in_ok-u.u.items in
+    let b = c.args.shared.now.b in
+    let fit = rw c.in-Ok.is at c.requires.ready.factor in
+    rw (fault.1, fault.2)
+    (λ p unshifted.
+    let factor = rw c.in-Ok.is at unshifted in
+    let has : HasFactor c.args.m.now p c.args.case.0 b loads c.in-Ok.factor = record { loaded = loads_given c.args.m.now c.args.case.0 loads c.in_ok-loads.ensures.loads; order = factor.0; factor = factor.1 } in
+    let turned = turns_given (solved b loads c.in-Ok.factor) 8 u (record { ordered = fit.ordered; size = ap (λ (n : ℕ). 6 * n) fit.nodes_are }) found in
+    tells_also _ _ _ (λ e is. case_by_bounds c.args.m.now p c.args.case.0 b c.args.shared.now.lambda loads c.in-Ok.factor u has turned ∙ is)
+    (tells_bounds _ u c.args.shared.now.lambda c.in_err-enclose.field-0.0 (λ is. wide (ap Err is))))
+
+pub returns-clause-given : goal.returns-clause-given
+returns-clause-given c =
+    let fits : FitsSigned w128 c.args.shared.now.lambda = search rules in
+    let found = rw (c.deref.ensures.value, c.requires.ready.laws, c.deref-2.ensures.value) at c.in_ok-u.ensures.ok in
+    let bounds = rw (c.deref-3.ensures.value, c.requires.ready.laws, c.deref-4.ensures.value, c.deref-5.ensures.value, to_z-of_z fits) at c.in_ok-enclose.ensures.bounds in
+    let loads = c.in_ok-loads.loads.items in
+    let u = c.in_ok-u.u.items in
+    let b = c.args.shared.now.b in
+    let fit = rw c.in-Ok.is at c.requires.ready.factor in
+    λ p unshifted.
+    let factor = rw c.in-Ok.is at unshifted in
+    let has : HasFactor c.args.m.now p c.args.case.0 b loads c.in-Ok.factor = record { loaded = loads_given c.args.m.now c.args.case.0 loads c.in_ok-loads.ensures.loads; order = factor.0; factor = factor.1 } in
+    let turned = turns_given (solved b loads c.in-Ok.factor) 8 u (record { ordered = fit.ordered; size = ap (λ (n : ℕ). 6 * n) fit.nodes_are }) found in
+    case_bounds c.args.m.now p c.args.case.0 b c.args.shared.now.lambda loads c.in-Ok.factor u _ has turned (bounds_given _ u c.args.shared.now.lambda _ bounds)

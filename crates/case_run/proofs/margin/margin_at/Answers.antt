@@ -3,6 +3,8 @@ use Rattle.std.specs.Int.{w128}
 use Rattle.std.proofs.lemmas.Result.{err_from_is_err_and}
 use Rattle.case_run.specs.Certified.{no_factor, row_fails}
 use Rattle.case_run.proofs.Faults.{names_also}
+use Rattle.case_run.specs.Causes.{plan}
+use Rattle.case_run.proofs.Chained.{margin_yes, margin_no}
 use Rattle.case_run.proofs.margin.margin_at.Goals as goal
 
 pub returns-in_err-factor-clause-fails : goal.returns-in_err-factor-clause-fails
@@ -36,3 +38,17 @@ returns-clause-fails c =
     row_fails c.in_ok-factor.factor c.in-No.row
     (rw (to_z-of_z c.ranges.shift) at c.in_ok-factor.ensures.factor)
     (rw (to_z-of_z c.ranges.shift) at c.in-No.ensures.verdict)
+
+pub returns-in-Yes-clause-given : goal.returns-in-Yes-clause-given
+returns-in-Yes-clause-given c =
+    let fits : FitsSigned w128 c.in-Yes.lambda = search rules in
+    let factor = rw (to_z-of_z c.ranges.shift) at c.in_ok-factor.ensures.factor in
+    rw (to_z-of_z fits)
+    (margin_yes (plan c.args.order.now c.args.parents.now) c.args.middles.now c.args.radii.now c.in_ok-factor.factor c.args.shift c.in-Yes.lambda
+    c.requires.factorable.nodes_are factor.order_is (rw (to_z-of_z c.ranges.shift) at c.in_ok-factor.ensures.given) (rw (to_z-of_z c.ranges.shift) at c.in-Yes.ensures.verdict))
+
+pub returns-clause-given : goal.returns-clause-given
+returns-clause-given c =
+    let factor = rw (to_z-of_z c.ranges.shift) at c.in_ok-factor.ensures.factor in
+    margin_no (plan c.args.order.now c.args.parents.now) c.args.middles.now c.args.radii.now c.in_ok-factor.factor c.args.shift c.in-No.row
+    c.requires.factorable.nodes_are factor.order_is (rw (to_z-of_z c.ranges.shift) at c.in_ok-factor.ensures.given) (rw (to_z-of_z c.ranges.shift) at c.in-No.ensures.verdict)

@@ -6,14 +6,15 @@ use Rattle.case_run.specs.Certified.{no_structure, no_matrices, no_margin}
 use Rattle.case_run.proofs.Faults.{names_also, names_element}
 use Rattle.case_run.proofs.Definite.{definite_stiffness}
 use Rattle.case_run.proofs.Sharing.{factor_for}
+use Rattle.sym_blocks.specs.Matrix.{entry}
+use Rattle.case_run.proofs.Chained.{tells_also, base_no_structure, base_no_matrices, base_no_margin, base_is, unshifted_there}
 use Rattle.case_run.proofs.shared.share.Goals as goal
 
 pub returns-in_err-b-clause-cause : goal.returns-in_err-b-clause-cause
 returns-in_err-b-clause-cause c =
     let p = err_from_is_err_and c.from_residual.result c.from_residual.ensures.1 in
     rw (p.1, p.2)
-    (names_also _ _ _ (λ cause is. no_structure is)
-    (names_element c.args.m.now c.in_err-b.field-0.0 (λ element is. c.in_err-b.ensures.wide element (ap Err is))))
+    (names_also _ _ c.in_err-b.field-0.0 (λ cause is. no_structure is) c.in_err-b.ensures.cause)
 
 pub returns-in_err-middles-clause-cause : goal.returns-in_err-middles-clause-cause
 returns-in_err-middles-clause-cause c =
@@ -43,5 +44,39 @@ returns-clause-ready c =
           c.in_ok-middles.ensures.factorable.nodes_are c.in_ok-lambda.ensures.definite real (c.in_ok-middles.ensures.within k real));
       factor =
           factor_for c.in_ok-b.b (plan c.args.order.now c.args.parents.now) c.in_ok-middles.middles _ _ c.in_ok-factor.factor
-          (c.requires.nodes ∙ sym c.in_ok-b.ensures.structure.nodes) c.in_ok-factor.ensures.factor c.in_ok-factor.ensures.diagonal;
+          (c.requires.nodes ∙ sym c.in_ok-b.ensures.structure.nodes) c.requires.plan.ordered c.in_ok-factor.ensures.factor c.in_ok-factor.ensures.diagonal;
     }
+
+pub returns-in_err-b-clause-given : goal.returns-in_err-b-clause-given
+returns-in_err-b-clause-given c =
+    let p = err_from_is_err_and c.from_residual.result c.from_residual.ensures.1 in
+    rw (p.1, p.2) (tells_also _ _ c.in_err-b.field-0.0 (λ e is. base_no_structure c.args.m.now (plan c.args.order.now c.args.parents.now) e is) c.in_err-b.ensures.given)
+
+pub returns-in_err-middles-clause-given : goal.returns-in_err-middles-clause-given
+returns-in_err-middles-clause-given c =
+    let p = err_from_is_err_and c.from_residual-in_err-middles.result c.from_residual-in_err-middles.ensures.1 in
+    rw (p.1, p.2)
+    (tells_also _ _ c.in_err-middles.field-0.0
+    (λ e is. base_no_matrices c.args.m.now (plan c.args.order.now c.args.parents.now) c.in_ok-b.b e c.in_ok-b.ensures.given is) c.in_err-middles.ensures.given)
+
+pub returns-in_err-lambda-clause-given : goal.returns-in_err-lambda-clause-given
+returns-in_err-lambda-clause-given c =
+    let p = err_from_is_err_and c.from_residual-in_err-lambda.result c.from_residual-in_err-lambda.ensures.1 in
+    rw (p.1, p.2)
+    (tells_also _ _ c.in_err-lambda.field-0.0
+    (λ e is.
+    base_no_margin c.args.m.now (plan c.args.order.now c.args.parents.now) c.in_ok-b.b (entry c.in_ok-middles.middles) (entry c.in_ok-middles.radii) e
+    c.in_ok-b.ensures.given c.in_ok-middles.ensures.given is)
+    c.in_err-lambda.ensures.given)
+
+pub returns-clause-given : goal.returns-clause-given
+returns-clause-given c =
+    let fits : FitsSigned w128 c.in_ok-lambda.lambda = search rules in
+    rw (to_z-of_z fits)
+    (base_is c.args.m.now (plan c.args.order.now c.args.parents.now) c.in_ok-b.b (entry c.in_ok-middles.middles) (entry c.in_ok-middles.radii) c.in_ok-lambda.lambda
+    c.in_ok-b.ensures.given c.in_ok-middles.ensures.given c.in_ok-lambda.ensures.given)
+
+pub returns-clause-unshifted : goal.returns-clause-unshifted
+returns-clause-unshifted c =
+    unshifted_there (plan c.args.order.now c.args.parents.now) c.in_ok-b.b c.in_ok-middles.middles (entry c.in_ok-middles.radii) _ c.in_ok-factor.factor
+    c.in_ok-middles.ensures.given c.in_ok-factor.ensures.factor c.in_ok-factor.ensures.given

@@ -1,6 +1,11 @@
 use Rattle.std.proofs.lemmas.Result.{err_from_is_err_and}
 use Rattle.case_run.proofs.Faults.{names_matrix}
 use Rattle.case_run.proofs.Matrices.{all_linear, middles_small, radii_below, radii_not_negative}
+use Rattle.std.proofs.Common.{ap}
+use Rattle.lists.specs.Results.{named}
+use Rattle.case_run.specs.Answers.{matrix_reason}
+use Rattle.case_run.proofs.Chained.{tells_matrix}
+use Rattle.case_run.proofs.GivenStructure.{matrices_given}
 use Rattle.case_run.proofs.steps.matrices_of.Goals as goal
 
 pub returns-in_err-middles-clause-cause : goal.returns-in_err-middles-clause-cause
@@ -30,3 +35,14 @@ returns-clause-radii c =
 pub returns-clause-within : goal.returns-clause-within
 returns-clause-within c = λ s real i j i_in j_in.
     rw (c.laws_keep_stretch.ensures.every_member s (λ k _. all_linear (s.member k).law) i j) (c.in_ok-middles.ensures.within _ s real i j i_in j_in)
+
+pub returns-in_err-middles-clause-given : goal.returns-in_err-middles-clause-given
+returns-in_err-middles-clause-given c =
+    let p = err_from_is_err_and c.from_residual.result c.from_residual.ensures.1 in
+    rw (p.1, p.2) (tells_matrix _ _ c.in_err-middles.ensures.fault)
+
+pub returns-clause-given : goal.returns-clause-given
+returns-clause-given c =
+    ap (named matrix_reason)
+    (matrices_given c.args.b.now c.in_ok-middles.middles c.in_ok-middles.radii c.requires.built c.in_ok-middles.ensures.kept.0 c.in_ok-middles.ensures.kept.1
+    c.in_ok-middles.ensures.matrices)

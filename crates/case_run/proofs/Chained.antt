@@ -1,0 +1,276 @@
+-- What the steps of an analysis give, put together to the answers as a function of the model.
+use Rattle.std.specs.Prelude.{is_err, IsErr, IfSome, MatchResult, replicate}
+use Rattle.std.proofs.Common.{◌≡◌, ℕ, zero, suc, ◌+◌, ◌*◌, ◌<◌, ◌≤◌, inl, inr, refl, sym, ◌∙◌, ap, ap₂, subst, arith, Bool, Option, Some, None, Result, Ok, Err, List, [], ◌∷◌, ◌++◌, length, map, drop, get_or, ℤ, pos}
+use Rattle.std.proofs.lemmas.Bool.{cases_lt}
+use Rattle.std.proofs.lemmas.List.{length-replicate, get_or-replicate}
+use Rattle.std.proofs.lemmas.List.FromFn.{map-range_with_len_more}
+use Rattle.flex_interval.specs.Ends.{Ends}
+use Rattle.flex_interval.specs.declared.fault.Wide.{Wide}
+use Rattle.int_laws.specs.Matrices.{Entries}
+use Rattle.lists.specs.Listed.{listed}
+use Rattle.lists.specs.Results.{and_then, named, unless, or_else, first_value}
+use Rattle.member_set.specs.declared.members.Built.{Built}
+use Rattle.member_set.specs.Members.{System, system, row_count}
+use Rattle.model_types.specs.Lists.{Lists}
+use Rattle.model_types.specs.declared.answers.Bounds.{Bounds}
+use Rattle.model_types.specs.declared.answers.Cause.{Cause}
+use Rattle.model_types.specs.declared.answers.CaseAnswer.{CaseAnswer}
+use Rattle.model_types.specs.declared.answers.CaseAnswer.TheVariants.{Certified, Uncertified}
+use Rattle.model_types.specs.declared.ids.ElementId.{ElementId}
+use Rattle.structure.specs.Structure.{model_members, structure_of}
+use Rattle.structure.specs.declared.fault.BuildFault.{BuildFault}
+use Rattle.structure.specs.declared.fault.BuildFault.TheVariants as builds
+use Rattle.assembly.specs.Stiffness.{NamesFirstWide, middle, radius, wide_row, matrices_of}
+use Rattle.assembly.specs.declared.fault.AssembleFault.{AssembleFault}
+use Rattle.assembly.specs.declared.fault.AssembleFault.TheVariants as assemblies
+use Rattle.load_vectors.specs.Loads.{IsFirstWideLoad, loads_of}
+use Rattle.load_vectors.specs.declared.fault.LoadFault.{LoadFault}
+use Rattle.load_vectors.specs.declared.fault.LoadFault.TheVariants as loads
+use Rattle.sym_blocks.specs.Matrix.{Matrix, node_count, entry as block_entry}
+use Rattle.cholesky_laws.specs.Recurrence.{scaled_stiffness}
+use Rattle.factor.specs.Scalar.{IsBreakdown}
+use Rattle.factor.specs.declared.fault.ScalarFault.{ScalarFault}
+use Rattle.factor.specs.declared.fault.ScalarFault.TheVariants as factors
+use Rattle.factor_data.specs.Columns.{ColumnLists, factor_entry}
+use Rattle.solve.specs.Refinement.{Problem, problem, IsTooWide}
+use Rattle.solve.specs.Turns.{turns_of}
+use Rattle.solve.specs.declared.fault.SolveFault.{SolveFault}
+use Rattle.solve.specs.declared.fault.SolveFault.TheVariants as solutions
+use Rattle.certificate.specs.Bounds.{HasNoBounds, bounds_around}
+use Rattle.certificate.specs.Checker.{test_of, test_by, margin_by, IsVerdict}
+use Rattle.certificate.specs.declared.bounds.Enclosure.{Enclosure}
+use Rattle.certificate.specs.declared.check.Verdict.TheVariants.{Yes, No}
+use Rattle.certificate.specs.declared.fault.EncloseFault.{EncloseFault}
+use Rattle.certificate.specs.declared.fault.EncloseFault.TheVariants as enclosures
+use Rattle.case_run.specs.declared.fault.CaseFault.{CaseFault}
+use Rattle.case_run.specs.declared.fault.CaseFault.TheVariants.{Because, NoMemory}
+use Rattle.case_run.specs.Causes.{Plan, resting_laws, IsFactorAt}
+use Rattle.case_run.specs.Certified.{TellsBounds, bounds_of, element_member_count}
+use Rattle.case_run.specs.Faults.{build_fault, assemble_fault, load_fault, scalar_fault, solve_fault, enclose_fault, reason_told}
+use Rattle.case_run.specs.Answers.{Reason, because, element_reason, matrix_reason, breakdown_reason, margin_reason, load_reason, turns_reason, bounds_reason, factor_at, margin_at, margin_of, Base, base, base_of, enclosure_in, answer_with, answers_of}
+use Rattle.case_run.proofs.Searching.{listed-is}
+use Rattle.case_run.proofs.GivenFactor.{pivot_given, wide_given}
+use Rattle.case_run.proofs.GivenMargin.{yes_given, no_given, test_is}
+use Rattle.case_run.proofs.GivenTurns.{IsOrdered, turns_broken}
+use Rattle.case_run.proofs.GivenBounds.{bounds_broken}
+use Rattle.case_run.proofs.GivenStructure.{structure_broken, loads_broken, matrices_broken}
+
+-- ---- faults
+
+-- the reason that a fault tells is the error that is expected
+abbrev pub Tells : {Y : Type 0} → Result Y Reason → CaseFault → Type 0
+Tells expected fault = IfSome (reason_told fault) (λ e. expected ≡ Err e)
+
+pub tells_also : {X Y : Type 0} (expected : Result X Reason) (other : Result Y Reason) (fault : CaseFault) →
+    ((e : Reason) → other ≡ Err e → expected ≡ Err e) → Tells other fault → Tells expected fault
+tells_also expected other (Because cause) also is = also (because cause) is
+tells_also expected other NoMemory also is = tt
+
+pub tells_element : (m : Lists) (fault : BuildFault) → ((element : ElementId) → fault ≡ builds.Wide element → model_members m ≡ Err element.0) →
+    Tells (named element_reason (structure_of m)) (build_fault fault)
+tells_element m (builds.Wide element) first = ap (named element_reason) (structure_broken m element.0 (first element refl))
+tells_element m builds.NoMemory first = tt
+
+pub tells_matrix : (b : Built) (fault : AssembleFault) → NamesFirstWide b fault → Tells (named matrix_reason (matrices_of b)) (assemble_fault fault)
+tells_matrix b (assemblies.Wide row) first = ap (named matrix_reason) (matrices_broken b row first)
+tells_matrix b assemblies.NoMemory first = tt
+
+pub tells_load : (m : Lists) (case : ℕ) (fault : LoadFault) → ((row : ℕ) → fault ≡ loads.Wide row → IsFirstWideLoad m case row) →
+    Tells (named load_reason (loads_of m case)) (load_fault fault)
+tells_load m case (loads.Wide row) first = ap (named load_reason) (loads_broken m case row (first row refl))
+tells_load m case loads.NoMemory first = tt
+
+pub tells_breakdown : (p : Plan) (a : Entries) (shift : ℤ) (fault : ScalarFault) → IsBreakdown (scaled_stiffness a p.order shift) p.order p.parents fault →
+    Tells (factor_at p a shift) (scalar_fault fault)
+tells_breakdown p a shift (factors.Pivot node dof) broken = ap (named breakdown_reason) (pivot_given (scaled_stiffness a p.order shift) p.order p.parents node dof broken)
+tells_breakdown p a shift (factors.Wide node) broken = ap (named breakdown_reason) (wide_given (scaled_stiffness a p.order shift) p.order p.parents node broken)
+tells_breakdown p a shift factors.NoMemory broken = tt
+
+pub tells_turns : (p : Problem) (fault : SolveFault) → IsOrdered p → (fault ≡ solutions.Wide → IsTooWide p) →
+    Tells (named (λ _. turns_reason) (turns_of p 8)) (solve_fault fault)
+tells_turns p solutions.Wide ordered wide = ap (named (λ (w : Wide). turns_reason)) (turns_broken p ordered (wide refl))
+tells_turns p solutions.NoMemory ordered wide = tt
+
+pub tells_bounds : (s : System) (u : List ℤ) (lambda : ℤ) (fault : EncloseFault) → (fault ≡ enclosures.Wide → HasNoBounds s u lambda) →
+    Tells (named (λ _. bounds_reason) (bounds_around s u lambda)) (enclose_fault fault)
+tells_bounds s u lambda enclosures.Wide none = ap (named (λ (w : Wide). bounds_reason)) (bounds_broken s u lambda (none refl))
+tells_bounds s u lambda enclosures.NoMemory none = tt
+
+-- ---- the margin
+
+-- the margin by a factor, or why there is none
+abbrev by_factor : Plan → Entries → Entries → ℤ → Result Entries Reason → Result ℤ Reason
+by_factor p middles radii shift o = and_then o (λ factor. named margin_reason (margin_by (test_by middles radii p.order factor shift)))
+
+pub margin_yes : (p : Plan) (middles radii : Matrix) (f : ColumnLists) (shift lambda : ℤ) → node_count middles ≡ length p.order → f.order ≡ p.order →
+    factor_at p (block_entry middles) shift ≡ Ok (factor_entry f) → IsVerdict (test_of middles radii f shift) (Yes lambda) →
+    margin_at p (block_entry middles) (block_entry radii) shift ≡ Ok lambda
+margin_yes p middles radii f shift lambda nodes order given verdict =
+    ap (by_factor p (block_entry middles) (block_entry radii) shift) given
+    ∙ ap (λ t. named margin_reason (margin_by t)) (sym (test_is middles radii f shift p.order nodes order))
+    ∙ ap (named margin_reason) (yes_given (test_of middles radii f shift) lambda verdict)
+
+pub margin_no : (p : Plan) (middles radii : Matrix) (f : ColumnLists) (shift : ℤ) (row : ℕ) → node_count middles ≡ length p.order → f.order ≡ p.order →
+    factor_at p (block_entry middles) shift ≡ Ok (factor_entry f) → IsVerdict (test_of middles radii f shift) (No row) →
+    margin_at p (block_entry middles) (block_entry radii) shift ≡ Err (margin_reason row)
+margin_no p middles radii f shift row nodes order given verdict =
+    ap (by_factor p (block_entry middles) (block_entry radii) shift) given
+    ∙ ap (λ t. named margin_reason (margin_by t)) (sym (test_is middles radii f shift p.order nodes order))
+    ∙ ap (named margin_reason) (no_given (test_of middles radii f shift) row verdict)
+
+other_value : {A E : Type 0} (o : Result A E) (next : Result A E) → IsErr o → or_else o next ≡ next
+other_value (Ok a) next err = absurd (cc)
+other_value (Err e) next err = refl
+
+-- the value is the last where there is none before
+pub last_value : {A E : Type 0} (n : ℕ) (f : ℕ → Result A E) → ((i : ℕ) → i < n → IsErr (f i)) → first_value n f ≡ f n
+last_value zero f none = refl
+last_value (suc n) f none =
+    let before = last_value n f (λ i below. none i (omega arith)) in
+    other_value (first_value n f) (f (suc n)) (ap (λ o. is_err o) before ∙ none n (omega arith))
+
+-- the first value is that at k, where there is none before
+pub value_at : {A E : Type 0} (n k : ℕ) (f : ℕ → Result A E) (a : A) → k ≤ n → ((i : ℕ) → i < k → IsErr (f i)) → f k ≡ Ok a → first_value n f ≡ Ok a
+value_at zero k f a le none is = (let same : k ≡ 0 = omega arith in subst (λ (i : ℕ). f i ≡ Ok a) same is)
+value_at (suc n) k f a le none is =
+    elim (cases_lt k (suc n)) [
+      | inl less ↦ ap (λ o. or_else o (f (suc n))) (value_at n k f a (omega arith) none is)
+      | inr not_less ↦
+          let same : k ≡ suc n = omega arith in
+          last_value (suc n) f (subst (λ (i : ℕ). (j : ℕ) → j < i → IsErr (f j)) same none) ∙ subst (λ (i : ℕ). f i ≡ Ok a) same is
+    ]
+
+-- ---- what the cases share
+
+-- from the margin on, and from the matrices on
+abbrev from_margin : Built → Result ℤ Reason → Result Base Reason
+from_margin b o = and_then o (λ lambda. Ok (base b lambda))
+
+abbrev from_matrices : Plan → Built → Result (Entries × Entries) Reason → Result Base Reason
+from_matrices p b o = and_then o (λ matrices. from_margin b (margin_of p matrices.0 matrices.1))
+
+abbrev from_structure : Plan → Result Built Reason → Result Base Reason
+from_structure p o = and_then o (λ b. from_matrices p b (named matrix_reason (matrices_of b)))
+
+pub base_no_structure : (m : Lists) (p : Plan) (e : Reason) → named element_reason (structure_of m) ≡ Err e → base_of m p ≡ Err e
+base_no_structure m p e is = ap (from_structure p) is
+
+pub base_no_matrices : (m : Lists) (p : Plan) (b : Built) (e : Reason) → named element_reason (structure_of m) ≡ Ok b →
+    named matrix_reason (matrices_of b) ≡ Err e → base_of m p ≡ Err e
+base_no_matrices m p b e structure is = ap (from_structure p) structure ∙ ap (from_matrices p b) is
+
+pub base_by_margin : (m : Lists) (p : Plan) (b : Built) (middles radii : Entries) → named element_reason (structure_of m) ≡ Ok b →
+    named matrix_reason (matrices_of b) ≡ Ok (middles, radii) → base_of m p ≡ from_margin b (margin_of p middles radii)
+base_by_margin m p b middles radii structure matrices = ap (from_structure p) structure ∙ ap (from_matrices p b) matrices
+
+pub base_no_margin : (m : Lists) (p : Plan) (b : Built) (middles radii : Entries) (e : Reason) → named element_reason (structure_of m) ≡ Ok b →
+    named matrix_reason (matrices_of b) ≡ Ok (middles, radii) → margin_of p middles radii ≡ Err e → base_of m p ≡ Err e
+base_no_margin m p b middles radii e structure matrices is = base_by_margin m p b middles radii structure matrices ∙ ap (from_margin b) is
+
+pub base_is : (m : Lists) (p : Plan) (b : Built) (middles radii : Entries) (lambda : ℤ) → named element_reason (structure_of m) ≡ Ok b →
+    named matrix_reason (matrices_of b) ≡ Ok (middles, radii) → margin_of p middles radii ≡ Ok lambda → base_of m p ≡ Ok (base b lambda)
+base_is m p b middles radii lambda structure matrices is = base_by_margin m p b middles radii structure matrices ∙ ap (from_margin b) is
+
+abbrev first_or : Entries → Result (Entries × Entries) Reason → Entries
+first_or k (Ok pair) = pair.0
+first_or k (Err e) = k
+
+only_middle : (b : Built) (wide : Option ℕ) (middles radii : Entries) → named {A = Entries × Entries} matrix_reason (unless wide (middle b, radius b)) ≡ Ok (middles, radii) → middles ≡ middle b
+only_middle b None middles radii is = (sym (ap (first_or (middle b)) is))
+only_middle b (Some row) middles radii is = absurd (cc)
+
+-- the factor without a shift is that of the structure's middles
+pub unshifted_there : (p : Plan) (b : Built) (middles : Matrix) (radii : Entries) (Q : Cause → Type 0) (r : Result ColumnLists Cause) →
+    named matrix_reason (matrices_of b) ≡ Ok (block_entry middles, radii) → MatchResult r (IsFactorAt p middles (pos 0)) Q →
+    MatchResult r (λ f. factor_at p (block_entry middles) (pos 0) ≡ Ok (factor_entry f)) (λ cause. factor_at p (block_entry middles) (pos 0) ≡ Err (because cause)) →
+    MatchResult r (λ f. (f.order ≡ p.order) × (factor_at p (middle b) (pos 0) ≡ Ok (factor_entry f))) (λ cause. factor_at p (middle b) (pos 0) ≡ Err (because cause))
+unshifted_there p b middles radii Q (Ok f) matrices factor given =
+    let same = only_middle b (wide_row b) (block_entry middles) radii matrices in
+    (factor.order_is, subst (λ (k : Entries). factor_at p k (pos 0) ≡ Ok (factor_entry f)) same given)
+unshifted_there p b middles radii Q (Err cause) matrices factor given =
+    let same = only_middle b (wide_row b) (block_entry middles) radii matrices in
+    subst (λ (k : Entries). factor_at p k (pos 0) ≡ Err (because cause)) same given
+
+-- ---- a case
+abbrev from_turns : Built → List Ends → ℤ → Result (List ℤ) Wide → Result Enclosure Reason
+from_turns b loads lambda o = and_then (named (λ _. turns_reason) o) (λ u. named (λ _. bounds_reason) (bounds_around (system b (resting_laws b) loads) u lambda))
+
+abbrev from_factor : Plan → Built → List Ends → ℤ → Result Entries Reason → Result Enclosure Reason
+from_factor p b loads lambda o = and_then o (λ factor. from_turns b loads lambda (turns_of (problem (system b (resting_laws b) loads) p.order factor) 8))
+
+abbrev from_loads : Plan → Built → ℤ → Result (List Ends) Reason → Result Enclosure Reason
+from_loads p b lambda o = and_then o (λ loads. from_factor p b loads lambda (factor_at p (middle b) (pos 0)))
+
+pub case_no_loads : (m : Lists) (p : Plan) (case : ℕ) (b : Built) (lambda : ℤ) (e : Reason) → named load_reason (loads_of m case) ≡ Err e →
+    enclosure_in m p case (base b lambda) ≡ Err e
+case_no_loads m p case b lambda e is = ap (from_loads p b lambda) is
+
+at_factor : (m : Lists) (p : Plan) (case : ℕ) (b : Built) (lambda : ℤ) (loads : List Ends) → loads_of m case ≡ Ok loads →
+    enclosure_in m p case (base b lambda) ≡ from_factor p b loads lambda (factor_at p (middle b) (pos 0))
+at_factor m p case b lambda loads loaded = ap (λ (o : Result (List Ends) ℕ). from_loads p b lambda (named load_reason o)) loaded
+
+pub case_no_factor : (m : Lists) (p : Plan) (case : ℕ) (b : Built) (lambda : ℤ) (loads : List Ends) (e : Reason) → loads_of m case ≡ Ok loads →
+    factor_at p (middle b) (pos 0) ≡ Err e → enclosure_in m p case (base b lambda) ≡ Err e
+case_no_factor m p case b lambda loads e loaded is = at_factor m p case b lambda loads loaded ∙ ap (from_factor p b loads lambda) is
+
+-- the loads and the factor that a case has, and the order of the factor
+pub record HasFactor (m : Lists) (p : Plan) (case : ℕ) (b : Built) (loads : List Ends) (f : ColumnLists) : Type 0 where
+  pub loaded : loads_of m case ≡ Ok loads
+  pub order : f.order ≡ p.order
+  pub factor : factor_at p (middle b) (pos 0) ≡ Ok (factor_entry f)
+
+-- what is solved with it
+abbrev pub solved : Built → List Ends → ColumnLists → Problem
+solved b loads f = problem (system b (resting_laws b) loads) f.order (factor_entry f)
+
+at_turns : (m : Lists) (p : Plan) (case : ℕ) (b : Built) (lambda : ℤ) (loads : List Ends) (f : ColumnLists) → HasFactor m p case b loads f →
+    enclosure_in m p case (base b lambda) ≡ from_turns b loads lambda (turns_of (solved b loads f) 8)
+at_turns m p case b lambda loads f has =
+    at_factor m p case b lambda loads has.loaded
+    ∙ ap (from_factor p b loads lambda) has.factor
+    ∙ ap (λ (o : List ℕ). from_turns b loads lambda (turns_of (problem (system b (resting_laws b) loads) o (factor_entry f)) 8)) (sym has.order)
+
+pub case_no_turns : (m : Lists) (p : Plan) (case : ℕ) (b : Built) (lambda : ℤ) (loads : List Ends) (f : ColumnLists) (e : Reason) → HasFactor m p case b loads f →
+    named (λ _. turns_reason) (turns_of (solved b loads f) 8) ≡ Err e → enclosure_in m p case (base b lambda) ≡ Err e
+case_no_turns m p case b lambda loads f e has is =
+    at_turns m p case b lambda loads f has
+    ∙ ap (λ (o : Result (List ℤ) Reason). and_then o (λ u. named (λ _. bounds_reason) (bounds_around (system b (resting_laws b) loads) u lambda))) is
+
+pub case_by_bounds : (m : Lists) (p : Plan) (case : ℕ) (b : Built) (lambda : ℤ) (loads : List Ends) (f : ColumnLists) (u : List ℤ) → HasFactor m p case b loads f →
+    turns_of (solved b loads f) 8 ≡ Ok u →
+    enclosure_in m p case (base b lambda) ≡ named (λ _. bounds_reason) (bounds_around (system b (resting_laws b) loads) u lambda)
+case_by_bounds m p case b lambda loads f u has turned = at_turns m p case b lambda loads f has ∙ ap (from_turns b loads lambda) turned
+
+pub case_bounds : (m : Lists) (p : Plan) (case : ℕ) (b : Built) (lambda : ℤ) (loads : List Ends) (f : ColumnLists) (u : List ℤ) (e : Enclosure) →
+    HasFactor m p case b loads f → turns_of (solved b loads f) 8 ≡ Ok u → bounds_around (system b (resting_laws b) loads) u lambda ≡ Ok e →
+    enclosure_in m p case (base b lambda) ≡ Ok e
+case_bounds m p case b lambda loads f u e has turned is =
+    case_by_bounds m p case b lambda loads f u has turned ∙ ap (named (λ (w : Wide). bounds_reason)) is
+
+certified_same : (u v forces others : List Bounds) (states marks : List Bool) → u ≡ v → forces ≡ others → states ≡ marks → Certified u forces states ≡ Certified v others marks
+certified_same u v forces others states marks us all closed = cc (us, all, closed)
+
+pub told_is : (first : ℕ) (e : Enclosure) (a : CaseAnswer) (o : Result Enclosure Reason) → TellsBounds first e a → o ≡ Ok e → a ≡ answer_with first o
+told_is first e (Certified u forces states) o tells is =
+    certified_same u _ forces _ states [] tells.0 tells.1 tells.2 ∙ ap (answer_with first) (sym is)
+told_is first e (Uncertified cause guess) o tells is = absurd tells
+
+-- ---- all cases
+
+-- one more place of a list
+pub listed_more : {X : Type 0} (n : ℕ) (f : ℕ → X) (xs new : List X) (a : X) → new ≡ xs ++ a ∷ [] → xs ≡ listed n f → a ≡ f n → new ≡ listed (n + 1) f
+listed_more n f xs new a pushed before here = rw (pushed, before, here) (sym (map-range_with_len_more f 0 n n (omega arith)))
+
+pub answers_by_base : (m : Lists) (p : Plan) (shared : Base) → base_of m p ≡ Ok shared →
+    answers_of m p ≡ listed (length m.cases) (λ case. answer_with (element_member_count m) (enclosure_in m p case shared))
+answers_by_base m p shared is =
+    ap (λ (o : Result Base Reason). listed (length m.cases) (λ (case : ℕ). answer_with (element_member_count m) (and_then o (enclosure_in m p case)))) is
+
+all_same : {X : Type 0} (n : ℕ) (x : X) → replicate n x ≡ listed n (λ _. x)
+all_same n x = listed-is x (replicate n x) n (λ _. x) (length-replicate n x) (λ k below. get_or-replicate n k x x below)
+
+pub answers_by_reason : (m : Lists) (p : Plan) (cause : Cause) → base_of m p ≡ Err (because cause) →
+    replicate (length m.cases) (Uncertified cause []) ≡ answers_of m p
+answers_by_reason m p cause is =
+    all_same (length m.cases) (Uncertified cause [])
+    ∙ sym (ap (λ (o : Result Base Reason). listed (length m.cases) (λ (case : ℕ). answer_with (element_member_count m) (and_then o (enclosure_in m p case)))) is)
