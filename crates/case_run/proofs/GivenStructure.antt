@@ -23,7 +23,7 @@ use Rattle.member_set.specs.Members.{nothing, shape_at, no_member, member_of, me
 use Rattle.model_types.specs.Lists.{Lists}
 use Rattle.structure.specs.Structure.{IsStructureOf, Members, model_members, touching_numbers, linear_structure, structure_of}
 use Rattle.load_vectors.specs.Loads.{AreLoads, IsFirstWideLoad, row_load, loads_of}
-use Rattle.sym_blocks.specs.Matrix.{Matrix, built_nodes as nodes_of, entry, IsSymmetricByBlocks}
+use Rattle.sym_blocks.specs.Matrix.{Matrix, node_count as nodes_of, entry, IsSymmetricByBlocks}
 use Rattle.assembly.specs.Stiffness.{AreAssembled, IsFirstWide, stiffness_at, entry_term, entry_sum, upper_entry, limited_entry, middle, radius, is_wide, wide_row, matrices_of}
 use Rattle.int_laws.specs.Matrices.{Entries}
 use Rattle.int_laws.specs.Division.{floor_of}
