@@ -1,5 +1,6 @@
-use Rattle.std.proofs.Common.{◌≡◌, subst, sym}
+use Rattle.std.proofs.Common.{◌≡◌, ◌∙◌, subst, sym}
 use Rattle.pipeflex_top.specs.Analysis.{EndsWith}
+use Rattle.pipeflex_top.specs.Bounds.{PrintBounds}
 use Rattle.report.specs.Fits.{AreAnswersOf}
 use Rattle.report.specs.Report.{report_of}
 use Rattle.pipeflex_top.proofs.Fits.{answers_fit}
@@ -20,10 +21,9 @@ pub returns : goal.returns
 returns c =
     let model = c.args.model.now in
     let found = c.in_ok-answers in
+    let given = found.ensures.given in
     record {
-      answers = found.answers.items;
-      reached = found.ensures.answers;
-      written = subst (λ answers. c.in_ok-bytes.bytes.items ≡ report_of model answers) c.deref-2.ensures.value c.in_ok-bytes.ensures;
-      ends = subst (λ answers. EndsWith answers c.ending_with-status.result) c.deref.ensures.value c.ending_with-status.ensures;
-      bounds = PrintBounds-always c.printed_pairs_hold.ensures model found.answers.items found.ensures.hold;
+      written = subst (λ answers. c.in_ok-bytes.bytes.items ≡ report_of model answers) (c.deref-2.ensures.value ∙ given) c.in_ok-bytes.ensures;
+      ends = subst (λ answers. EndsWith answers c.ending_with-status.result) (c.deref.ensures.value ∙ given) c.ending_with-status.ensures;
+      bounds = subst (PrintBounds model) given (PrintBounds-always c.printed_pairs_hold.ensures model found.answers.items found.ensures.hold);
     }
