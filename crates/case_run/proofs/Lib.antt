@@ -4,12 +4,6 @@ pub mod Definite
 pub mod Sharing
 pub mod Telling
 pub mod Lists
-pub mod SameSolutions
-pub mod SameFactors
-pub mod SameVerdicts
-pub mod SameStructures
-pub mod SameMargins
-pub mod SameAnswers
 pub mod Searching
 pub mod GivenFactor
 pub mod GivenMargin

@@ -5,4 +5,3 @@ pub mod Faults
 pub mod Certified
 pub mod Equilibria
 pub mod Shared
-pub mod Determined

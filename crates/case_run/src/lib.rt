@@ -3,10 +3,8 @@
 
 mod cases;
 mod fault;
-mod laws;
 mod margin;
 mod shared;
 mod steps;
 
 pub use cases::answers;
-pub use laws::answers_are_determined;

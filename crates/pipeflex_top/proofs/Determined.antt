@@ -1,12 +1,9 @@
--- A model has at most one report.
-use Rattle.std.proofs.Common.{◌≡◌, List, refl, sym, ap, subst, ◌∙◌}
-use Rattle.case_run.specs.Determined.{AnswersAreDetermined}
+-- A model has one report.
+use Rattle.std.proofs.Common.{◌≡◌, List, refl, sym, ◌∙◌}
 use Rattle.flex_io.specs.declared.outcome.Status.{Status}
 use Rattle.flex_io.specs.declared.outcome.Status.TheVariants.{Done, Uncertified, Refused, Usage, ReadFault, WriteFault, NoMemory}
 use Rattle.model_types.specs.declared.answers.CaseAnswer.{CaseAnswer}
-use Rattle.report.specs.Report.{report_of}
-use Rattle.pipeflex_top.specs.Analysis.{EndsWith, ReportIsDetermined, text_order}
-use Rattle.pipeflex_top.proofs.Outcomes.{IsOrder-text}
+use Rattle.pipeflex_top.specs.Analysis.{EndsWith, ReportIsDetermined, analysis_of}
 
 -- the same answers have one ending
 one_ending : (answers : List CaseAnswer) (first second : Status) → EndsWith answers first → EndsWith answers second → first ≡ second
@@ -30,7 +27,5 @@ one_ending answers ReadFault second here also = absurd here
 one_ending answers WriteFault second here also = absurd here
 one_ending answers NoMemory second here also = absurd here
 
-pub one_report : AnswersAreDetermined → ReportIsDetermined
-one_report determined m first second status other straight a b =
-    let same : a.answers ≡ b.answers = determined m text_order a.answers b.answers IsOrder-text (sym straight.few.nodes) a.reached b.reached in
-    (a.written ∙ ap (report_of m) same ∙ sym b.written, one_ending b.answers status other (subst (λ answers. EndsWith answers status) same a.ends) b.ends)
+pub one_report : ReportIsDetermined
+one_report m first second status other a b = (a.written ∙ sym b.written, one_ending (analysis_of m) status other a.ends b.ends)

@@ -1,14 +1,13 @@
 -- The report of an analysis.
 use Rattle.std.specs.Prelude.{◌≡◌, ℕ, ⊤, List, [], ◌∷◌, Some, None, All}
 use Rattle.case_run.specs.Causes.{Plan, plan}
-use Rattle.case_run.specs.Certified.{AreCaseAnswers}
+use Rattle.case_run.specs.Answers.{answers_of}
 use Rattle.flex_io.specs.declared.Status.{Status}
 use Rattle.flex_io.specs.declared.Status.TheVariants.{Done, Uncertified}
 use Rattle.model_types.specs.Lists.{Lists}
 use Rattle.model_types.specs.declared.answers.CaseAnswer.{CaseAnswer}
 use Rattle.model_types.specs.declared.answers.CaseAnswer.TheVariants as answer
 use Rattle.report.specs.Report.{report_of}
-use Rattle.pipeflex_top.specs.OneStraight.{IsOneStraight}
 use Rattle.pipeflex_top.specs.Told.{IsReportText}
 
 -- two nodes are eliminated in text order: the parent of the first is the second
@@ -26,16 +25,18 @@ EndsWith answers Done = All IsCertifiedAnswer answers
 EndsWith answers Uncertified = ¬ (All IsCertifiedAnswer answers)
 EndsWith answers _ = ⊥
 
+-- the answers of the cases of a model that is analysed
+abbrev pub analysis_of : Lists → List CaseAnswer
+analysis_of m = answers_of m text_order
+
 -- the output is the report of the answers of the model's cases, the run ends as they say, and in each case that the text
 -- calls certified every equilibrium lies between the numbers that stand there
 pub record IsReport (m : Lists) (output : List ℕ) (status : Status) : Type 0 where
-  pub answers : List CaseAnswer
-  pub reached : AreCaseAnswers m text_order answers
-  pub written : output ≡ report_of m answers
-  pub ends : EndsWith answers status
+  pub written : output ≡ report_of m (analysis_of m)
+  pub ends : EndsWith (analysis_of m) status
   pub told : IsReportText m output
 
--- a model that is analysed has at most one report, and a run that writes it one ending
+-- a model has one report, and a run that writes it one ending
 abbrev pub ReportIsDetermined : Type 0
-ReportIsDetermined = (m : Lists) (first second : List ℕ) (status other : Status) → IsOneStraight m →
+ReportIsDetermined = (m : Lists) (first second : List ℕ) (status other : Status) →
     IsReport m first status → IsReport m second other → (first ≡ second) × (status ≡ other)

@@ -1,5 +1,6 @@
-use Rattle.std.proofs.Common.{◌≡◌, subst, sym}
+use Rattle.std.proofs.Common.{◌≡◌, ◌∙◌, subst, sym}
 use Rattle.pipeflex_top.specs.Analysis.{EndsWith}
+use Rattle.pipeflex_top.specs.Bounds.{PrintBounds}
 use Rattle.report.specs.Fits.{AreAnswersOf}
 use Rattle.report.specs.Report.{report_of}
 use Rattle.pipeflex_top.proofs.Fits.{answers_fit}
@@ -20,11 +21,10 @@ pub returns : goal.returns
 returns c =
     let model = c.args.model.now in
     let found = c.in_ok-answers in
+    let given = found.ensures.given in
     let written : c.in_ok-bytes.bytes.items ≡ report_of model found.answers.items = subst (λ answers. c.in_ok-bytes.bytes.items ≡ report_of model answers) c.deref-2.ensures.value c.in_ok-bytes.ensures in
     record {
-      answers = found.answers.items;
-      reached = found.ensures.answers;
-      written = written;
-      ends = subst (λ answers. EndsWith answers c.ending_with-status.result) c.deref.ensures.value c.ending_with-status.ensures;
+      written = subst (λ answers. c.in_ok-bytes.bytes.items ≡ report_of model answers) given written;
+      ends = subst (λ answers. EndsWith answers c.ending_with-status.result) (c.deref.ensures.value ∙ given) c.ending_with-status.ensures;
       told = report_told c.printed_pairs_hold.ensures c.elements_have_their_members.ensures model found.answers.items c.in_ok-bytes.bytes.items c.requires.anchors found.ensures.answers.one_each found.ensures.hold written;
     }

@@ -2,4 +2,4 @@ use Rattle.pipeflex_top.proofs.Determined.{one_report}
 use Rattle.pipeflex_top.proofs.laws.report_is_determined.Goals as goal
 
 pub returns : goal.returns
-returns c = one_report c.answers_are_determined.ensures
+returns c = one_report
