@@ -127,6 +127,12 @@ abbrev pub SizesGiveLength : Type 0
 SizesGiveLength = (r : Realisation) (u : List ℤ) (residual : ℕ → Ends) (size : ℤ) → AreResidualsWithin r u residual →
     squared_norm r.stiffness.rows (λ row. greater_size (residual row)) ≤ℤ (size *ℤ size) → IsResidualLength r u size
 
+-- so is the root of that sum, rounded up, and it isn't negative
+abbrev pub RootIsLength : Type 0
+RootIsLength = (r : Realisation) (u : List ℤ) (residual : ℕ → Ends) → AreResidualsWithin r u residual →
+    (pos 0 ≤ℤ root_up_of (squared_norm r.stiffness.rows (λ row. greater_size (residual row))))
+    × IsResidualLength r u (root_up_of (squared_norm r.stiffness.rows (λ row. greater_size (residual row))))
+
 -- 2^36 size / lambda, rounded up
 abbrev pub displacement_radius_of : ℤ → ℤ → ℤ
 displacement_radius_of lambda size = ceil_of (size *ℤ pos (2 ^ 36)) lambda
