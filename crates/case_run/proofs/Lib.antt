@@ -11,3 +11,4 @@ pub mod SameVerdicts
 pub mod SameStructures
 pub mod SameMargins
 pub mod SameAnswers
+pub mod SoundnessLaw

@@ -5,3 +5,4 @@ pub mod Certified
 pub mod Equilibria
 pub mod Shared
 pub mod Determined
+pub mod Soundness

@@ -1,6 +1,20 @@
 ghost use Rattle.case_run.specs.Determined.{AnswersAreDetermined};
+ghost use Rattle.case_run.specs.Soundness.{AnswerHolds, AnswersHold};
 
 /// What shows that the definition of the answers leaves no choice: at most one list of answers meets it.
 pub fn answers_are_determined()
     ensures { AnswersAreDetermined }
 {}
+
+/// What the defined answers of a model's cases hold, whatever worked them out: every equilibrium of every realisation of the
+/// model's structure under the loads of a case lies within the bounds of a certified answer.
+pub fn answers_hold()
+    ensures each { AnswerHolds }
+    ensures all { AnswersHold }
+{
+    bound_laws::passed_test_is_proof();
+    assembly::matrices_hold();
+    member_set::laws_keep_stretch();
+    certificate::bounds_hold();
+    structure::structures_are_stiff();
+}

@@ -1,3 +1,4 @@
 pub mod TouchingLemmas
 pub mod MemberLemmas
 pub mod BuildingLemmas
+pub mod StiffLaw

@@ -1,6 +1,12 @@
 ghost use Rattle.structure.specs.Elements.{ElementsHaveEightMembers};
+ghost use Rattle.structure.specs.Structure.{StructuresAreStiff};
 
 /// An element whose members are within their limits has eight of them.
 pub fn elements_have_eight_members()
     ensures { ElementsHaveEightMembers }
+{}
+
+/// The members of every structure of a model are stiff, by their definition.
+pub fn structures_are_stiff()
+    ensures { StructuresAreStiff }
 {}
