@@ -1,10 +1,8 @@
 ghost use Rattle.std.specs.Prelude.{◌≡◌, ◌<◌, ℕ, length, map, drop, replicate, [], IfOk, IfErr, All};
 ghost use Rattle.case_run.specs.Causes.{plan, Plan};
 ghost use Rattle.case_run.specs.Certified.{IsCertified, IsUncertified, IsCaseAnswer, AreCaseAnswers, TellsBounds, bounds_of, element_member_count};
-ghost use Rattle.case_run.specs.Equilibria.{OfEquilibria, HoldsAlways, HoldAlways};
 ghost use Rattle.case_run.specs.Shared.{IsReady, IsShared};
 ghost use Rattle.case_run.specs.Steps.{Names};
-ghost use Rattle.certificate.specs.Bounds.{EnclosesEquilibrium};
 ghost use Rattle.elimination.specs.Elimination.{AreParents};
 ghost use Rattle.lists.specs.Order.{IsOrder};
 ghost use Rattle.load_vectors.specs.Loads.{HasForcesAlone, case_at};
@@ -34,7 +32,6 @@ pub fn answers(
     requires parents_count { length parents.now ≡ length order.now }
     requires parents_later { AreParents parents.now (length order.now) }
     ensures answers { IfOk result (λ answers. AreCaseAnswers m.now (plan order.now parents.now) answers.items) }
-    ensures hold { IfOk result (λ answers. HoldAlways m.now answers.items) }
 {
     // What every model keeps: it has a node, and not many.
     let _nodes = m.nodes();
@@ -62,7 +59,6 @@ fn each_answer(alloc: Global, m: &Model, shared: &Shared) -> Result<Vec<CaseAnsw
     requires forces_alone { (case : ℕ) → case < length m.now.cases → HasForcesAlone (case_at m.now case) }
     requires ready { IsReady m.now shared.now }
     ensures answers { IfOk result (λ answers. (p : Plan) → IsShared m.now p shared.now → AreCaseAnswers m.now p answers.items) }
-    ensures hold { IfOk result (λ answers. HoldAlways m.now answers.items) }
 {
     let cases = m.cases().len();
     let mut answers = Vec::with_capacity(alloc, cases)?;
@@ -83,7 +79,6 @@ fn case_answer(
     requires forces_alone { HasForcesAlone (case_at m.now case.0) }
     requires ready { IsReady m.now shared.now }
     ensures answer { IfOk result (λ a. (p : Plan) → IsShared m.now p shared.now → IsCaseAnswer m.now case.0 p a) }
-    ensures holds { IfOk result (HoldsAlways m.now case.0) }
 {
     match enclosure_of(alloc, m, case, shared) {
         Ok(e) => certified(alloc, &e, 8 * m.elements().len()),
@@ -103,7 +98,6 @@ fn enclosure_of(
     requires forces_alone { HasForcesAlone (case_at m.now case.0) }
     requires ready { IsReady m.now shared.now }
     ensures bounds { IfOk result (λ e. (p : Plan) → IsShared m.now p shared.now → IsCertified m.now case.0 p e) }
-    ensures encloses { IfOk result (λ e. OfEquilibria m.now case.0 (EnclosesEquilibrium e)) }
     ensures cause { IfErr result (λ f. (p : Plan) → IsShared m.now p shared.now → Names (IsUncertified m.now case.0 p) f) }
 {
     let loads = loads(alloc, m, case)?;

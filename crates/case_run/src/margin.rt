@@ -1,7 +1,7 @@
 ghost use Rattle.std.specs.Prelude.{◌≡◌, ◌<◌, ◌≤◌, ℕ, length, IfOk, IfErr, ℤ, pos, ◌≤ℤ◌, ◌^◌};
 ghost use Rattle.case_run.specs.Causes.{plan};
 ghost use Rattle.case_run.specs.Certified.{shift_of, last_place, ShiftPasses, ShiftFails, IsMargin, HasNoMargin};
-ghost use Rattle.case_run.specs.Steps.{Names, IsFactorable, IsPlan, AreDefinite, IsRadiusMatrix};
+ghost use Rattle.case_run.specs.Steps.{Names, IsFactorable, IsPlan, IsRadiusMatrix};
 
 use crate::fault::CaseFault;
 use crate::steps::factor_of;
@@ -39,7 +39,6 @@ fn margin_at(
     requires shift_high { shift ≤ℤ pos (2 ^ 44) }
     ensures passes { IfOk result (ShiftPasses (plan order.now parents.now) middles.now radii.now shift) }
     ensures positive { IfOk result (λ lambda. pos 1 ≤ℤ lambda) }
-    ensures definite { IfOk result (AreDefinite middles.now radii.now) }
     ensures fails { IfErr result (Names (ShiftFails (plan order.now parents.now) middles.now radii.now shift)) }
 {
     let factor = factor_of(alloc, middles, order, parents, shift)?;
@@ -66,7 +65,6 @@ pub(crate) fn margin_of(
     requires radii { IsRadiusMatrix (length order.now) radii.now }
     ensures margin { IfOk result (IsMargin (plan order.now parents.now) middles.now radii.now) }
     ensures positive { IfOk result (λ lambda. pos 1 ≤ℤ lambda) }
-    ensures definite { IfOk result (AreDefinite middles.now radii.now) }
     ensures cause { IfErr result (Names (HasNoMargin (plan order.now parents.now) middles.now radii.now)) }
 {
     for place in 0..LAST_PLACE {

@@ -1,6 +1,6 @@
 use Rattle.std.proofs.Common.{refl}
 use Rattle.std.proofs.lemmas.Result.{IfOk-weaker}
-use Rattle.case_run.proofs.Telling.{told_answer, told_holds}
+use Rattle.case_run.proofs.Telling.{told_answer}
 use Rattle.case_run.proofs.cases.case_answer.Goals as goal
 
 pub returns-in-Ok-clause-answer : goal.returns-in-Ok-clause-answer
@@ -8,11 +8,6 @@ returns-in-Ok-clause-answer c =
     let tells = rw c.elements.ensures.records at c.certified.ensures in
     IfOk-weaker c.certified.result _ _
     (λ a is p shared. told_answer c.args.m.now c.args.case.0 p c.in-Ok.e a is (c.in-Ok.ensures.bounds p shared)) tells
-
-pub returns-in-Ok-clause-holds : goal.returns-in-Ok-clause-holds
-returns-in-Ok-clause-holds c =
-    let tells = rw c.elements.ensures.records at c.certified.ensures in
-    IfOk-weaker c.certified.result _ _ (λ a is. told_holds c.args.m.now c.args.case.0 c.in-Ok.e a is c.in-Ok.ensures.encloses) tells
 
 pub returns-in-Err-Because-clause-answer : goal.returns-in-Err-Because-clause-answer
 returns-in-Err-Because-clause-answer c = λ p shared.

@@ -1,5 +1,5 @@
 use Rattle.std.proofs.Common.{◌≡◌, subst, sym}
-use Rattle.pipeflex_top.specs.Analysis.{EndsWith}
+use Rattle.pipeflex_top.specs.Analysis.{EndsWith, text_order}
 use Rattle.report.specs.Fits.{AreAnswersOf}
 use Rattle.report.specs.Report.{report_of}
 use Rattle.pipeflex_top.proofs.Fits.{answers_fit}
@@ -25,5 +25,6 @@ returns c =
       reached = found.ensures.answers;
       written = subst (λ answers. c.in_ok-bytes.bytes.items ≡ report_of model answers) c.deref-2.ensures.value c.in_ok-bytes.ensures;
       ends = subst (λ answers. EndsWith answers c.ending_with-status.result) c.deref.ensures.value c.ending_with-status.ensures;
-      bounds = PrintBounds-always c.printed_pairs_hold.ensures model found.answers.items found.ensures.hold;
+      bounds = PrintBounds-always c.printed_pairs_hold.ensures model found.answers.items
+          (c.answers_hold.ensures.all model text_order found.answers.items c.nodes-_nodes.ensures.model found.ensures.answers);
     }
