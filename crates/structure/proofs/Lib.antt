@@ -2,3 +2,4 @@ pub mod TouchingLemmas
 pub mod MemberLemmas
 pub mod BuildingLemmas
 pub mod StiffLaw
+pub mod PlacedLaw

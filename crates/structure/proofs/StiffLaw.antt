@@ -73,12 +73,12 @@ straight-stiff e a b s m members is =
 
 -- ---- a model's
 
-then_members-ok : (r : Members) (next : List Member → Members) (members : List Member) → then_members r next ≡ Ok members →
+pub then_members-ok : (r : Members) (next : List Member → Members) (members : List Member) → then_members r next ≡ Ok members →
     (before : List Member) × (r ≡ Ok before) × (next before ≡ Ok members)
 then_members-ok (Ok before) next members is = (before, refl, is)
 then_members-ok (Err number) next members is = absurd (cc)
 
-with_element-ok : (n : ℕ) (r : Result (List Member) Wide) (before members : List Member) → with_element n r before ≡ Ok members →
+pub with_element-ok : (n : ℕ) (r : Result (List Member) Wide) (before members : List Member) → with_element n r before ≡ Ok members →
     (more : List Member) × (r ≡ Ok more) × (before ++ more ≡ members)
 with_element-ok n (Ok more) before members is = (more, refl, cc)
 with_element-ok n (Err w) before members is = absurd (cc)
@@ -101,7 +101,7 @@ sound-stiff nodes members sound = λ k d inside. record { at_least = (sound k d 
 abbrev answered : List Member → Members
 answered members = Ok members
 
-whole-is : (elements restraints members : List Member) → answered (elements ++ restraints) ≡ Ok members → elements ++ restraints ≡ members
+pub whole-is : (elements restraints members : List Member) → answered (elements ++ restraints) ≡ Ok members → elements ++ restraints ≡ members
 whole-is elements restraints members is = cc
 
 pub structures_are_stiff : StructuresAreStiff
