@@ -46,9 +46,12 @@ placed m (suc count) all is n below =
           subst (λ (i : ℕ). (members : List Member) × (members_of_element m (element_at m i) ≡ Ok members)
           × ((j : ℕ) → j < 8 → get_or all (8 * i + j) no_member ≡ get_or members j no_member)) (sym same) (own.0, own.1, λ j small. here j)
       | inr apart ↦
-          let before = placed m count step.0 step.1 n (omega arith) in
-          (before.0, before.1, λ j small. ap (λ (xs : List Member). get_or xs (8 * n + j) no_member) (sym own.2)
-          ∙ get_or_append_left step.0 own.0 no_member (8 * n + j) (omega (arith, long)) ∙ before.2 j small)
+          let before = placed m count step.0 step.1 n (omega arith) in (
+            before.0,
+            before.1,
+            λ j small. ap (λ (xs : List Member). get_or xs (8 * n + j) no_member) (sym own.2)
+                ∙ get_or_append_left step.0 own.0 no_member (8 * n + j) (omega (arith, long)) ∙ before.2 j small,
+          )
     ]
 
 mode_number-below : (mode : Mode) → mode_number mode < 8
