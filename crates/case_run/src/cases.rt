@@ -31,7 +31,7 @@ pub fn answers(
     requires nodes { length order.now ≡ length m.now.nodes }
     requires parents_count { length parents.now ≡ length order.now }
     requires parents_later { AreParents parents.now (length order.now) }
-    ensures answers { IfOk result (λ answers. AreCaseAnswers m.now (plan order.now parents.now) answers.items) }
+    ensures { IfOk result (λ answers. AreCaseAnswers m.now (plan order.now parents.now) answers.items) }
 {
     // What every model keeps: it has a node, and not many.
     let _nodes = m.nodes();
@@ -58,7 +58,7 @@ fn same_answers(alloc: Global, m: &Model, cause: Cause) -> Result<Vec<CaseAnswer
 fn each_answer(alloc: Global, m: &Model, shared: &Shared) -> Result<Vec<CaseAnswer>, AllocError>
     requires forces_alone { (case : ℕ) → case < length m.now.cases → HasForcesAlone (case_at m.now case) }
     requires ready { IsReady m.now shared.now }
-    ensures answers { IfOk result (λ answers. (p : Plan) → IsShared m.now p shared.now → AreCaseAnswers m.now p answers.items) }
+    ensures { IfOk result (λ answers. (p : Plan) → IsShared m.now p shared.now → AreCaseAnswers m.now p answers.items) }
 {
     let cases = m.cases().len();
     let mut answers = Vec::with_capacity(alloc, cases)?;
@@ -78,7 +78,7 @@ fn case_answer(
     requires case_in_range { case.0 < length m.now.cases }
     requires forces_alone { HasForcesAlone (case_at m.now case.0) }
     requires ready { IsReady m.now shared.now }
-    ensures answer { IfOk result (λ a. (p : Plan) → IsShared m.now p shared.now → IsCaseAnswer m.now case.0 p a) }
+    ensures { IfOk result (λ a. (p : Plan) → IsShared m.now p shared.now → IsCaseAnswer m.now case.0 p a) }
 {
     match enclosure_of(alloc, m, case, shared) {
         Ok(e) => certified(alloc, &e, 8 * m.elements().len()),

@@ -7,8 +7,8 @@ use Rattle.case_run.specs.Certified.{IsCaseAnswer, by_model}
 use Rattle.case_run.proofs.Lists.{each_replicate}
 use Rattle.case_run.proofs.cases.answers.Goals as goal
 
-pub returns-in-Err-Because-clause-answers : goal.returns-in-Err-Because-clause-answers
-returns-in-Err-Because-clause-answers c =
+pub returns-in-Err-Because : goal.returns-in-Err-Because
+returns-in-Err-Because c =
     let m = c.args.m.now in
     let p = plan c.args.order.now c.args.parents.now in
     let cause = rw c.in-Err-Because.field-0-is at c.in-Err-Because.ensures.cause in

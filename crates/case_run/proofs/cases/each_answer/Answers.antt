@@ -14,5 +14,5 @@ loop-case-preserved c =
       answers = λ p shared.
           rw items
           (each_pushed (λ (k : ℕ) (a : CaseAnswer). IsCaseAnswer m k p a) _ _ (before.answers p shared)
-          (rw before.count (c.in_ok-case_answer.ensures.answer p shared)));
+          (rw before.count (c.in_ok-case_answer.ensures p shared)));
     }

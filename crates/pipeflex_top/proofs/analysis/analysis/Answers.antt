@@ -14,7 +14,7 @@ pub bytes-requires : goal.bytes-requires
 bytes-requires c =
     let model = c.args.model.now in
     let found = c.in_ok-answers in
-    record { answers = subst (AreAnswersOf model) (sym c.deref-2.ensures.value) (answers_fit c.passed_test_is_proof.ensures c.bounds_are_limited.ensures c.elements_have_eight_members.ensures model found.answers.items c.requires found.ensures.answers) }
+    record { answers = subst (AreAnswersOf model) (sym c.deref-2.ensures.value) (answers_fit c.passed_test_is_proof.ensures c.bounds_are_limited.ensures c.elements_have_eight_members.ensures model found.answers.items c.requires found.ensures) }
 
 pub returns : goal.returns
 returns c =
@@ -22,9 +22,9 @@ returns c =
     let found = c.in_ok-answers in
     record {
       answers = found.answers.items;
-      reached = found.ensures.answers;
+      reached = found.ensures;
       written = subst (λ answers. c.in_ok-bytes.bytes.items ≡ report_of model answers) c.deref-2.ensures.value c.in_ok-bytes.ensures;
       ends = subst (λ answers. EndsWith answers c.ending_with-status.result) c.deref.ensures.value c.ending_with-status.ensures;
       bounds = PrintBounds-always c.printed_pairs_hold.ensures model found.answers.items
-          (c.answers_hold.ensures.all model text_order found.answers.items c.nodes-_nodes.ensures.model found.ensures.answers);
+          (c.answers_hold.ensures.all model text_order found.answers.items c.nodes-_nodes.ensures.model found.ensures);
     }
