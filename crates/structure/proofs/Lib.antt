@@ -3,3 +3,4 @@ pub mod MemberLemmas
 pub mod BuildingLemmas
 pub mod StiffLaw
 pub mod PlacedLaw
+pub mod NumbersLaw

@@ -21,7 +21,7 @@ use Rattle.structure.specs.Structure.{with_element, element_members, model_membe
 use Rattle.structure.proofs.MemberLemmas.{members-count}
 use Rattle.structure.proofs.StiffLaw.{then_members-ok, with_element-ok, whole-is}
 
-elements-count : (m : Lists) (n : ℕ) (members : List Member) → element_members m n ≡ Ok members → length members ≡ 8 * n
+pub elements-count : (m : Lists) (n : ℕ) (members : List Member) → element_members m n ≡ Ok members → length members ≡ 8 * n
 elements-count m zero members is = let none : [] ≡ members = cc in sym (ap length none)
 elements-count m (suc n) members is =
     let step = then_members-ok (element_members m n) (with_element n (members_of_element m (element_at m n))) members is in

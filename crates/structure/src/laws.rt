@@ -1,4 +1,5 @@
 ghost use Rattle.structure.specs.Elements.{ElementsHaveEightMembers};
+ghost use Rattle.structure.specs.Numbers.{StructuresHoldNumbers};
 ghost use Rattle.structure.specs.Structure.{StructuresAreStiff};
 
 /// An element whose members are within their limits has eight of them.
@@ -9,4 +10,10 @@ pub fn elements_have_eight_members()
 /// The members of every structure of a model are stiff, by their definition.
 pub fn structures_are_stiff()
     ensures { StructuresAreStiff }
+{}
+
+/// Where the members of its elements hold the exact straights, each stiffness and shape number of a structure has an interval
+/// that holds a number.
+pub fn structures_hold_numbers()
+    ensures { StructuresHoldNumbers }
 {}
