@@ -4,3 +4,4 @@ pub mod Outside
 pub mod Patterns
 pub mod Terms
 pub mod Whole
+pub mod InclusionLaw

@@ -156,7 +156,7 @@ filled_all b built km rd middles radii pattern pattern_too i j inside filled =
           }
     ]
 
-exact_symmetric : (s : Stiffness) (i j : ℕ) → exact_entry every_member s i j ≡ exact_entry every_member s j i
+pub exact_symmetric : (s : Stiffness) (i j : ℕ) → exact_entry every_member s i j ≡ exact_entry every_member s j i
 exact_symmetric s i j =
     sum_below-same s.members _ _ (λ k inside. mul_turn ((s.member k).shape i) (s.member k).stiffness ((s.member k).shape j))
 

@@ -1,2 +1,3 @@
 pub mod Stiffness
 pub mod Filling
+pub mod Inclusion

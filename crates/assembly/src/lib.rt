@@ -4,7 +4,9 @@
 mod entries;
 mod fault;
 mod filling;
+mod laws;
 mod matrices;
 
 pub use fault::AssembleFault;
+pub use laws::matrices_hold;
 pub use matrices::assemble;

@@ -5,7 +5,7 @@ use Rattle.int_laws.proofs.Sums.{int_sums}
 use Rattle.int_laws.proofs.Products.{add-mul, sub-mul, neg-mul, mul-neg, mul_comm, mul_assoc, mul_swap, mul_right_comm, mul_mul_mul_comm, square_nonnegative, mul_nonnegative, mul_positive, le_mul, le_of_mul, le_of_square}
 use Rattle.flex_interval.specs.Ends.{Ends}
 use Rattle.flex_interval.specs.Fraction.{Within}
-use Rattle.member_set.specs.Members.{member_of, force_of}
+use Rattle.member_set.specs.Members.{member_of}
 use Rattle.member_set.specs.Realisation.{entry_unit, every_member, exact_entry, Realisation, force_in, displaced, fraction}
 use Rattle.int_laws.specs.Matrices.{Vector, squared_norm}
 use Rattle.bound_laws.specs.Nearness.{residual_unit, displacement_error, force_error, left_over, IsNear, widened, alone, NearIsEnclosed}
@@ -123,7 +123,7 @@ power_296 : pos (2 ^ 148) *ℤ pos (2 ^ 148) ≡ pos (2 ^ 112) *ℤ (pos (2 ^ 92
 power_296 = refl
 
 pub near_enclosed : NearIsEnclosed
-near_enclosed s r lambda u exact forces size radius force_radius stiff real one near size_up long radii within =
+near_enclosed s r lambda u exact force size radius force_radius stiff real one near size_up long radii within =
     let q_up : pos 0 <ℤ r.stiffness.denominator = real.stiffness.positive in
     let unit_up = unit_positive r.stiffness q_up in
     let lambda_up : pos 0 <ℤ lambda = omega (arith, int_sums) in
@@ -150,6 +150,6 @@ near_enclosed s r lambda u exact forces size radius force_radius stiff real one 
           (stiffness_not_negative r k (member_of s.structure k).kappa kappa_within (stiff k inside_b)) units h long kappa_within.at_most (radii.force k inside_b) in
           let own = near.forces k inside in
           let other = subst (λ (z : ℤ). ((lambda *ℤ entry_unit r.stiffness.denominator) *ℤ z) ≤ℤ ((r.stiffness.member k).stiffness *ℤ squared_norm r.stiffness.rows (left_over r u))) (sym (square-neg (force_error r u exact k))) own in
-          within_widened (force_of forces k) (force_radius k) (pos (2 ^ 92) *ℤ ((r.stiffness.denominator *ℤ r.stiffness.denominator) *ℤ r.stiffness.denominator)) (force_in r exact k) (force_in r (displaced r.stiffness.denominator u) k)
+          within_widened (force k) (force_radius k) (pos (2 ^ 92) *ℤ ((r.stiffness.denominator *ℤ r.stiffness.denominator) *ℤ r.stiffness.denominator)) (force_in r exact k) (force_in r (displaced r.stiffness.denominator u) k)
           (within k inside) (bound (force_error r u exact k) own) (bound (neg_ℤ (force_error r u exact k)) other);
     }

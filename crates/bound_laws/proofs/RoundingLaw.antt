@@ -5,7 +5,7 @@ use Rattle.std.proofs.Common.{true, false, ◌+ℤ◌, ◌^◌, sym, ◌∙◌, 
 use Rattle.std.proofs.lemmas.Int.{ints, clamps, by_lt_z}
 use Rattle.int_laws.proofs.Sums.{int_sums}
 use Rattle.int_laws.proofs.Products.{neg-mul, mul_comm, mul_assoc, mul_mul_mul_comm, zero-mul, square_nonnegative, mul_nonnegative, le_mul, le_of_mul, square_le}
-use Rattle.int_laws.proofs.SumLaws.{sum_below-le, sum_below-mul}
+use Rattle.int_laws.proofs.SumLaws.{sum_below-le, sum_below-mul, sum_below-nonnegative}
 use Rattle.int_laws.specs.Division.{ceil_of}
 use Rattle.int_laws.specs.Powers.{power}
 use Rattle.int_laws.specs.Root.{root_of, root_up_of}
@@ -16,7 +16,7 @@ use Rattle.flex_interval.specs.Fraction.{Within}
 use Rattle.member_set.specs.Members.{member_of}
 use Rattle.member_set.specs.Realisation.{entry_unit, every_member, exact_entry, fraction}
 use Rattle.int_laws.specs.Matrices.{squared_norm}
-use Rattle.bound_laws.specs.Nearness.{residual_unit, left_over, greater_size, SizesGiveLength, displacement_radius_of, force_radius_of, RoundedRadiiAreEnough, RadiiAreNotNegative}
+use Rattle.bound_laws.specs.Nearness.{residual_unit, left_over, greater_size, SizesGiveLength, RootIsLength, displacement_radius_of, force_radius_of, RoundedRadiiAreEnough, RadiiAreNotNegative}
 use Rattle.bound_laws.proofs.RadiusLaw.{square-neg}
 
 -- ---- a length of what is left
@@ -121,3 +121,10 @@ radii_are_not_negative lambda squares kappa one =
       ceiling_not_negative (size *ℤ root) (pos (2 ^ 20)) (omega (arith, ints))
           (mul_nonnegative size root size_up (root_not_negative (ceil_of (kappa *ℤ pos (2 ^ 40)) lambda))),
     )
+
+pub root_is_length : RootIsLength
+root_is_length r u residual within =
+    let squares = squared_norm r.stiffness.rows (λ row. greater_size (residual row)) in
+    let up = sum_below-nonnegative r.stiffness.rows (λ row. greater_size (residual row) *ℤ greater_size (residual row)) (λ row _. square_nonnegative (greater_size (residual row))) in
+    let root = root_up_of-is (squared_norm r.stiffness.rows (λ row. greater_size (residual row))) up in
+    (root.nonnegative, sizes_give_length r u residual _ within root.at_least)

@@ -12,7 +12,7 @@ use Rattle.flex_interval.specs.Ends.{Ends}
 use Rattle.flex_interval.specs.Fraction.{Within}
 use Rattle.member_set.specs.declared.members.Built.{Built}
 use Rattle.member_set.specs.declared.members.Law.{Law}
-use Rattle.member_set.specs.Members.{member_of, force_of, System}
+use Rattle.member_set.specs.Members.{member_of, System}
 use Rattle.member_set.specs.Realisation.{Stiffness, IsStiffnessOf, Realisation, IsRealisation, IsEquilibrium, entry_unit, linear_members, exact_entry, force_in, exact_residual, displaced, fraction, force_fraction}
 use Rattle.int_laws.specs.Matrices.{Vector, Entries, absolute, squared_norm}
 use Rattle.bound_laws.specs.Definiteness.{SymmetricFractions, IsDefiniteWith}
@@ -92,24 +92,24 @@ abbrev pub alone : ℤ → Ends
 alone z = record { lo = z; hi = z }
 
 -- each force at u is within its interval
-abbrev pub AreForcesWithin : Realisation → List ℤ → List Ends → Type 0
-AreForcesWithin r u forces = (k : ℕ) → k < r.stiffness.members →
-    Within (force_of forces k) (force_fraction r.stiffness.denominator (force_in r (displaced r.stiffness.denominator u) k))
+abbrev pub AreForcesWithin : Realisation → List ℤ → (ℕ → Ends) → Type 0
+AreForcesWithin r u force = (k : ℕ) → k < r.stiffness.members →
+    Within (force k) (force_fraction r.stiffness.denominator (force_in r (displaced r.stiffness.denominator u) k))
 
 -- each displacement and each force of the equilibrium is within the radius of that at u
-pub record IsEnclosed (r : Realisation) (u : List ℤ) (forces : List Ends) (radius : ℤ) (force_radius : ℕ → ℤ) (exact : Vector) : Type 0 where
+pub record IsEnclosed (r : Realisation) (u : List ℤ) (force_at : ℕ → Ends) (radius : ℤ) (force_radius : ℕ → ℤ) (exact : Vector) : Type 0 where
   pub displacement : (row : ℕ) → row < r.stiffness.rows →
       Within (widened (alone (slice_index_or u row (pos 0))) radius) (fraction (exact row) r.stiffness.denominator)
   pub force : (k : ℕ) → k < r.stiffness.members →
-      Within (widened (force_of forces k) (force_radius k)) (force_fraction r.stiffness.denominator (force_in r exact k))
+      Within (widened (force_at k) (force_radius k)) (force_fraction r.stiffness.denominator (force_in r exact k))
 
 -- what is near is within the radii
 abbrev pub NearIsEnclosed : Type 0
 NearIsEnclosed = (s : System) (r : Realisation) (lambda : ℤ) (u : List ℤ) (exact : Vector)
-    (forces : List Ends) (size radius : ℤ) (force_radius : ℕ → ℤ) →
+    (force : ℕ → Ends) (size radius : ℤ) (force_radius : ℕ → ℤ) →
     NoNegativeStiffness s.structure → IsRealisation s r → pos 1 ≤ℤ lambda → IsNear r lambda u exact →
-    pos 0 ≤ℤ size → IsResidualLength r u size → AreRadii s.structure lambda size radius force_radius → AreForcesWithin r u forces →
-    IsEnclosed r u forces radius force_radius exact
+    pos 0 ≤ℤ size → IsResidualLength r u size → AreRadii s.structure lambda size radius force_radius → AreForcesWithin r u force →
+    IsEnclosed r u force radius force_radius exact
 
 -- ---- a length and radii that are enough, in whole numbers
 
@@ -126,6 +126,12 @@ AreResidualsWithin r u residual = (row : ℕ) → row < r.stiffness.rows →
 abbrev pub SizesGiveLength : Type 0
 SizesGiveLength = (r : Realisation) (u : List ℤ) (residual : ℕ → Ends) (size : ℤ) → AreResidualsWithin r u residual →
     squared_norm r.stiffness.rows (λ row. greater_size (residual row)) ≤ℤ (size *ℤ size) → IsResidualLength r u size
+
+-- so is the root of that sum, rounded up, and it isn't negative
+abbrev pub RootIsLength : Type 0
+RootIsLength = (r : Realisation) (u : List ℤ) (residual : ℕ → Ends) → AreResidualsWithin r u residual →
+    (pos 0 ≤ℤ root_up_of (squared_norm r.stiffness.rows (λ row. greater_size (residual row))))
+    × IsResidualLength r u (root_up_of (squared_norm r.stiffness.rows (λ row. greater_size (residual row))))
 
 -- 2^36 size / lambda, rounded up
 abbrev pub displacement_radius_of : ℤ → ℤ → ℤ

@@ -3,7 +3,7 @@
 #![tactic(auto)]
 
 ghost use Rattle.bound_laws.specs.Definiteness.{PassedTestIsProof};
-ghost use Rattle.bound_laws.specs.Nearness.{StiffnessMatrixExists, EquilibriaAreNear, NearIsEnclosed, SizesGiveLength, RoundedRadiiAreEnough, RadiiAreNotNegative};
+ghost use Rattle.bound_laws.specs.Nearness.{StiffnessMatrixExists, EquilibriaAreNear, NearIsEnclosed, SizesGiveLength, RootIsLength, RoundedRadiiAreEnough, RadiiAreNotNegative};
 
 /// The law of the verified Cholesky test, for every interval matrix, factor and shift.
 pub fn passed_test_is_proof()
@@ -19,6 +19,7 @@ pub fn equilibria_are_near()
     ensures near { EquilibriaAreNear }
     ensures enclosed { NearIsEnclosed }
     ensures length { SizesGiveLength }
+    ensures root { RootIsLength }
     ensures radii { RoundedRadiiAreEnough }
     ensures not_negative { RadiiAreNotNegative }
 {

@@ -11,3 +11,4 @@ pub mod GivenTurns
 pub mod GivenBounds
 pub mod GivenStructure
 pub mod Chained
+pub mod SoundnessLaw

@@ -5,3 +5,4 @@ pub mod Faults
 pub mod Certified
 pub mod Equilibria
 pub mod Shared
+pub mod Soundness

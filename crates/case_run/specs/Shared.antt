@@ -1,9 +1,7 @@
 -- What all cases of a model share.
 use Rattle.std.specs.Prelude.{◌≡◌, IfOk, MatchResult, pos, ◌≤ℤ◌, Ok, Err}
-use Rattle.member_set.specs.Realisation.{Stiffness, IsStiffnessOf}
 use Rattle.model_types.specs.Lists.{Lists}
 use Rattle.sym_blocks.specs.Matrix.{Matrix}
-use Rattle.certificate.specs.Bounds.{IsDefiniteStiffness}
 use Rattle.structure.specs.Structure.{IsStructureOf}
 use Rattle.member_set.specs.Members.{AreStiff}
 use Rattle.case_run.specs.declared.shared.Shared.{Shared}
@@ -20,7 +18,6 @@ pub record IsReady (m : Lists) (s : Shared) : Type 0 where
   pub stiff : AreStiff s.b
   pub laws : s.laws.items ≡ resting_laws s.b
   pub positive : pos 1 ≤ℤ s.lambda
-  pub definite : (k : Stiffness) → IsStiffnessOf s.b (resting_laws s.b) k → IsDefiniteStiffness k s.lambda
   pub factor : IfOk s.factor (IsFactorFor s.b)
 
 -- the factor without a shift, or why there is none, is that of the structure's middles

@@ -5,10 +5,8 @@ ghost use Rattle.case_run.specs.Answers.{base, enclosure_in, answer_with, answer
 ghost use Rattle.case_run.specs.Faults.{reason_told};
 ghost use Rattle.case_run.specs.Causes.{plan, Plan};
 ghost use Rattle.case_run.specs.Certified.{IsCertified, IsUncertified, IsCaseAnswer, AreCaseAnswers, TellsBounds, bounds_of};
-ghost use Rattle.case_run.specs.Equilibria.{OfEquilibria, HoldsAlways, HoldAlways};
 ghost use Rattle.case_run.specs.Shared.{IsReady, IsShared, HasUnshifted};
 ghost use Rattle.case_run.specs.Steps.{Names};
-ghost use Rattle.certificate.specs.Bounds.{EnclosesEquilibrium};
 ghost use Rattle.elimination.specs.Elimination.{AreParents};
 ghost use Rattle.lists.specs.Order.{IsOrder};
 ghost use Rattle.load_vectors.specs.Loads.{HasForcesAlone, case_at};
@@ -41,7 +39,6 @@ pub fn answers(
     requires parents_later { AreParents parents.now (length order.now) }
     ensures given { IfOk result (λ answers. answers.items ≡ answers_of m.now (plan order.now parents.now)) }
     ensures answers { IfOk result (λ answers. AreCaseAnswers m.now (plan order.now parents.now) answers.items) }
-    ensures hold { IfOk result (λ answers. HoldAlways m.now answers.items) }
 {
     // What every model keeps: it has a node, and not many.
     let _nodes = m.nodes();
@@ -71,7 +68,6 @@ fn each_answer(alloc: Global, m: &Model, shared: &Shared) -> Result<Vec<CaseAnsw
     ensures given { IfOk result (λ answers. (p : Plan) → HasUnshifted p shared.now → answers.items ≡
         listed (length m.now.cases) (λ case. answer_with (element_member_count m.now) (enclosure_in m.now p case (base shared.now.b shared.now.lambda)))) }
     ensures answers { IfOk result (λ answers. (p : Plan) → IsShared m.now p shared.now → AreCaseAnswers m.now p answers.items) }
-    ensures hold { IfOk result (λ answers. HoldAlways m.now answers.items) }
 {
     let cases = m.cases().len();
     let mut answers = Vec::with_capacity(alloc, cases)?;
@@ -94,7 +90,6 @@ fn case_answer(
     ensures given { IfOk result (λ a. (p : Plan) → HasUnshifted p shared.now →
         a ≡ answer_with (element_member_count m.now) (enclosure_in m.now p case.0 (base shared.now.b shared.now.lambda))) }
     ensures answer { IfOk result (λ a. (p : Plan) → IsShared m.now p shared.now → IsCaseAnswer m.now case.0 p a) }
-    ensures holds { IfOk result (HoldsAlways m.now case.0) }
 {
     match enclosure_of(alloc, m, case, shared) {
         Ok(e) => certified(alloc, &e, element_member_count(m)),
@@ -115,7 +110,6 @@ fn enclosure_of(
     requires ready { IsReady m.now shared.now }
     ensures given { (p : Plan) → HasUnshifted p shared.now → Gives (λ e. e) reason_told (enclosure_in m.now p case.0 (base shared.now.b shared.now.lambda)) result }
     ensures bounds { IfOk result (λ e. (p : Plan) → IsShared m.now p shared.now → IsCertified m.now case.0 p e) }
-    ensures encloses { IfOk result (λ e. OfEquilibria m.now case.0 (EnclosesEquilibrium e)) }
     ensures cause { IfErr result (λ f. (p : Plan) → IsShared m.now p shared.now → Names (IsUncertified m.now case.0 p) f) }
 {
     let loads = loads(alloc, m, case)?;

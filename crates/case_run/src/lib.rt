@@ -3,8 +3,10 @@
 
 mod cases;
 mod fault;
+mod laws;
 mod margin;
 mod shared;
 mod steps;
 
 pub use cases::answers;
+pub use laws::answers_hold;

@@ -5,7 +5,7 @@ ghost use Rattle.case_run.specs.Answers.{margin_at, margin_of};
 ghost use Rattle.case_run.specs.Faults.{reason_told};
 ghost use Rattle.case_run.specs.Causes.{plan};
 ghost use Rattle.case_run.specs.Certified.{shift_of, last_place, ShiftPasses, ShiftFails, IsMargin, HasNoMargin};
-ghost use Rattle.case_run.specs.Steps.{Names, IsFactorable, IsPlan, AreDefinite, IsRadiusMatrix};
+ghost use Rattle.case_run.specs.Steps.{Names, IsFactorable, IsPlan, IsRadiusMatrix};
 
 use crate::fault::CaseFault;
 use crate::steps::factor_of;
@@ -44,7 +44,6 @@ fn margin_at(
     ensures given { Gives (λ lambda. lambda) reason_told (margin_at (plan order.now parents.now) (entry middles.now) (entry radii.now) shift) result }
     ensures passes { IfOk result (ShiftPasses (plan order.now parents.now) middles.now radii.now shift) }
     ensures positive { IfOk result (λ lambda. pos 1 ≤ℤ lambda) }
-    ensures definite { IfOk result (AreDefinite middles.now radii.now) }
     ensures fails { IfErr result (Names (ShiftFails (plan order.now parents.now) middles.now radii.now shift)) }
 {
     let factor = factor_of(alloc, middles, order, parents, shift)?;
@@ -72,7 +71,6 @@ pub(crate) fn margin_of(
     ensures given { Gives (λ lambda. lambda) reason_told (margin_of (plan order.now parents.now) (entry middles.now) (entry radii.now)) result }
     ensures margin { IfOk result (IsMargin (plan order.now parents.now) middles.now radii.now) }
     ensures positive { IfOk result (λ lambda. pos 1 ≤ℤ lambda) }
-    ensures definite { IfOk result (AreDefinite middles.now radii.now) }
     ensures cause { IfErr result (Names (HasNoMargin (plan order.now parents.now) middles.now radii.now)) }
 {
     for place in 0..LAST_PLACE {

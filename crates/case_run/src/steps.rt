@@ -1,8 +1,6 @@
 ghost use Rattle.std.specs.Prelude.{◌≡◌, ◌<◌, ◌≤◌, ℕ, length, [], IfOk, IfErr, ℤ, pos, ◌≤ℤ◌, ◌^◌};
-ghost use Rattle.member_set.specs.Members.{IsBuilt, built_nodes, row_count};
-ghost use Rattle.member_set.specs.Realisation.{exact_entry, entry_unit, Stiffness, IsStiffnessOf, linear_members};
-ghost use Rattle.assembly.specs.Stiffness.{AreAssembled, IsWithinRadius};
-ghost use Rattle.sym_blocks.specs.Matrix.{entry};
+ghost use Rattle.member_set.specs.Members.{IsBuilt, built_nodes};
+ghost use Rattle.assembly.specs.Stiffness.{AreAssembled};
 ghost use Rattle.elimination.specs.Elimination.{AreParents};
 ghost use Rattle.lists.specs.Order.{IsOrder};
 ghost use Rattle.case_run.specs.Causes.{plan, resting_laws, IsFactorAt, IsMatrixCause, IsBreakdownCause, IsElementCause};
@@ -21,8 +19,8 @@ use assembly::assemble;
 use factor::scalar;
 use factor_data::Factor;
 use flex_interval::point;
-use member_set::{Built, Law, laws_keep_stretch};
 use model_types::Model;
+use member_set::{Built, Law};
 use std::alloc::{AllocError, Global};
 use structure::build;
 use sym_blocks::SymBlocks;
@@ -46,12 +44,8 @@ pub(crate) fn matrices_of(alloc: Global, b: &Built) -> Result<(SymBlocks, SymBlo
     ensures assembled { IfOk result (λ m. AreAssembled b.now m.0 m.1) }
     ensures factorable { IfOk result (λ m. IsFactorable (built_nodes b.now) m.0) }
     ensures radii { IfOk result (λ m. IsRadiusMatrix (built_nodes b.now) m.1) }
-    ensures within { IfOk result (λ m. (s : Stiffness) → IsStiffnessOf b.now (resting_laws b.now) s →
-        (i j : ℕ) → i < row_count b.now → j < row_count b.now →
-        IsWithinRadius (entry_unit s.denominator) (exact_entry (linear_members s) s i j) (entry m.0 i j) (entry m.1 i j)) }
     ensures cause { IfErr result (Names (IsMatrixCause b.now)) }
 {
-    laws_keep_stretch();
     let (middles, radii) = assemble(alloc, b, &[])?;
     Ok((middles, radii))
 }

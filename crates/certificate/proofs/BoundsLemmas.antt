@@ -90,14 +90,14 @@ ceiling_bounded n d q limit one up below is =
 -- ---- the law
 
 -- an interval that holds a number has its ends in order
-ordered : (e : Ends) (n q : ℤ) → Within e (fraction n q) → e.lo ≤ℤ e.hi
+pub ordered : (e : Ends) (n q : ℤ) → Within e (fraction n q) → e.lo ≤ℤ e.hi
 ordered e n q within = le_of_mul q e.lo e.hi within.defined (omega (arith, int_sums, within.at_least, within.at_most))
 
 pub bounds_enclose : StiffnessMatrixExists → EquilibriaAreNear → NearIsEnclosed → RoundedRadiiAreEnough →
     (b : Built) (laws : List Law) (loads : List Ends) (u : List ℤ) (lambda size radius : ℤ) (old displacements forces : List Ends) (r : Realisation) (exact : Vector) →
     AreStiff b → pos 1 ≤ℤ lambda → pos 0 ≤ℤ size → length u ≡ row_count b → radius ≡ displacement_radius_of lambda size →
     AreAroundDisplacements u radius displacements → AreWidened b lambda size old forces →
-    IsRealisation (system b laws loads) r → IsResidualLength r u size → AreForcesWithin r u old → IsDefiniteStiffness r.stiffness lambda → IsEquilibrium r exact →
+    IsRealisation (system b laws loads) r → IsResidualLength r u size → AreForcesWithin r u (λ k. force_of old k) → IsDefiniteStiffness r.stiffness lambda → IsEquilibrium r exact →
     EnclosesEquilibrium (only displacements forces) r exact
 bounds_enclose matrix_exists equilibria_near near_enclosed rounded_radii_are_enough b laws loads u lambda size radius old displacements forces r exact stiff one size_up one_each radius_is around wider real long within definite balanced =
     let inside_b = λ (k : ℕ) (inside : k < r.stiffness.members). subst (λ (n : ℕ). k < n) real.stiffness.all_members inside in
@@ -108,7 +108,7 @@ bounds_enclose matrix_exists equilibria_near near_enclosed rounded_radii_are_eno
     (λ k inside.
     let order = ordered (member_of b k).kappa (r.stiffness.member k).stiffness r.stiffness.denominator (real.stiffness.member_within k (subst (λ (n : ℕ). k < n) (sym real.stiffness.all_members) inside)).stiffness_within in
     omega (arith, int_sums, order, (stiff k inside).at_least)) in
-    let enclosed = near_enclosed (system b laws loads) r lambda u exact old size (displacement_radius_of lambda size) (λ k. force_radius_of lambda size (member_of b k).kappa.hi)
+    let enclosed = near_enclosed (system b laws loads) r lambda u exact (λ k. force_of old k) size (displacement_radius_of lambda size) (λ k. force_radius_of lambda size (member_of b k).kappa.hi)
     up real one near size_up long radii within in
     record {
       displacement = λ row inside.

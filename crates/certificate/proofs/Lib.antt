@@ -8,3 +8,4 @@ pub mod ResidualLemmas
 pub mod RowLemmas
 pub mod CheckLemmas
 pub mod LimitLemmas
+pub mod BoundsLaw

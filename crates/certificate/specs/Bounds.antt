@@ -7,8 +7,8 @@ use Rattle.lists.specs.Search.{any_below}
 use Rattle.flex_interval.specs.declared.fault.Wide.{Wide}
 use Rattle.flex_interval.specs.Ends.{Ends}
 use Rattle.flex_interval.specs.Fraction.{Within}
-use Rattle.member_set.specs.Members.{nothing, member_of, force_of, row_count, IsModerate, System}
-use Rattle.member_set.specs.Realisation.{Realisation, force_in, fraction, force_fraction, Stiffness}
+use Rattle.member_set.specs.Members.{nothing, member_of, force_of, row_count, IsModerate, System, IsBuilt, AreStiff}
+use Rattle.member_set.specs.Realisation.{Realisation, force_in, fraction, force_fraction, Stiffness, IsRealisation, IsEquilibrium}
 use Rattle.member_set.specs.Interval.{found, forces_of, residual_of}
 use Rattle.certificate.specs.declared.bounds.Enclosure.{Enclosure}
 use Rattle.int_laws.specs.Matrices.{Vector, squared_norm}
@@ -106,6 +106,12 @@ pub data HasNoBounds (s : System) (u : List ℤ) (lambda : ℤ) : Type 0 where
 pub record EnclosesEquilibrium (e : Enclosure) (r : Realisation) (exact : Vector) : Type 0 where
   pub displacement : (row : ℕ) → row < r.stiffness.rows → Within (slice_index_or e.u row nothing) (fraction (exact row) r.stiffness.denominator)
   pub force : (k : ℕ) → k < r.stiffness.members → Within (force_of e.force k) (force_fraction r.stiffness.denominator (force_in r exact k))
+
+-- bounds of a definite stiffness hold: how the displacements were found is no premise
+abbrev pub BoundsHold : Type 0
+BoundsHold = (s : System) (u : List ℤ) (lambda : ℤ) (e : Enclosure) (r : Realisation) (exact : Vector) →
+    IsBuilt s.structure → AreStiff s.structure → pos 1 ≤ℤ lambda → AreBounds s u lambda e →
+    IsRealisation s r → IsDefiniteStiffness r.stiffness lambda → IsEquilibrium r exact → EnclosesEquilibrium e r exact
 
 -- both ends of an interval are below 2^67 in size
 abbrev pub HasLimitedEnds : Ends → Type 0

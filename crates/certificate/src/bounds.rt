@@ -101,7 +101,7 @@ fn residual_length(
     requires moderate { IsModerate u.now }
     requires one_force_each { length forces.old ≡ length b.now.members }
     ensures forces { OnOk result (HaveForces b.now (forces_of b.now laws.now u.now) forces.new) }
-    ensures forces_within { OnOk result ((r : Realisation) → IsRealisation (system b.now laws.now loads.now) r → AreForcesWithin r u.now forces.new) }
+    ensures forces_within { OnOk result ((r : Realisation) → IsRealisation (system b.now laws.now loads.now) r → AreForcesWithin r u.now (λ k. force_of forces.new k)) }
     ensures residuals { OnOk result (HasResiduals (system b.now laws.now loads.now) u.now) }
     ensures short { OnOk result (sum_of_squares (system b.now laws.now loads.now) u.now <ℤ pos (2 ^ 126)) }
     ensures value { IfOk result (λ size. size ≡ residual_length (system b.now laws.now loads.now) u.now) }

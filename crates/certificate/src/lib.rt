@@ -16,5 +16,5 @@ mod space;
 pub use bounds::{Enclosure, enclose};
 pub use check::{Verdict, check_definite};
 pub use fault::EncloseFault;
-pub use laws::bounds_are_limited;
+pub use laws::{bounds_are_limited, bounds_hold};
 pub use space::CheckSpace;

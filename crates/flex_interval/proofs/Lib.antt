@@ -8,3 +8,4 @@ pub mod BestRootLemmas
 pub mod SmallRatios
 pub mod SmallProducts
 pub mod SmallSums
+pub mod InclusionLaws

@@ -3,3 +3,4 @@ pub mod Ends
 pub mod Fraction
 pub mod Operations
 pub mod Roots
+pub mod Inclusion

@@ -4,3 +4,4 @@ pub mod Touching
 pub mod Turns
 pub mod RestLaw
 pub mod StretchLaw
+pub mod InclusionLaws

@@ -57,3 +57,20 @@ in_turn-some_fault step start term n t fault inside here = at (in_turn step star
     at : (before : Outcome) → in_turn step start term t ≡ before → IsErr (in_turn step start term n)
     at (Ok total) is = subst (λ (r : Outcome). IsErr r) (sym (in_turn-term_fault step start term t n total fault inside is here)) refl
     at (Err e) is = subst (λ (r : Outcome). IsErr r) (sym (in_turn-fault step start term t n e (omega arith) is)) refl
+
+-- an answer of two steps has one of the first
+pub first_of : (o : Outcome) (next : Ends → Outcome) (e : Ends) → and_then o next ≡ Ok e → (x : Ends) × (o ≡ Ok x) × (next x ≡ Ok e)
+first_of (Ok x) next e is = (x, refl, is)
+first_of (Err f) next e is = absurd (cc)
+
+-- what the start has and each step keeps, the end has
+pub in_turn_holds : (step : Ends → Ends → Outcome) (start : Ends) (term : ℕ → Outcome) (n : ℕ) (Holds : ℕ → Ends → Type 0) → Holds 0 start →
+    ((t : ℕ) (total next after : Ends) → t < n → Holds t total → term t ≡ Ok next → step total next ≡ Ok after → Holds (suc t) after) →
+    (e : Ends) → in_turn step start term n ≡ Ok e → Holds n e
+in_turn_holds step start term zero Holds first more e is =
+    let same : start ≡ e = cc in
+    subst (λ (z : Ends). Holds 0 z) same first
+in_turn_holds step start term (suc n) Holds first more e is =
+    let before = first_of (in_turn step start term n) (λ total. and_then (term n) (λ x. step total x)) e is in
+    let here = first_of (term n) (λ x. step before.0 x) e before.2 in
+    more n before.0 here.0 e (omega arith) (in_turn_holds step start term n Holds first (λ t total next after inside. more t total next after (omega arith)) before.0 before.1) here.1 here.2

@@ -1,3 +1,4 @@
 pub mod Members
 pub mod Realisation
 pub mod Interval
+pub mod Inclusion

@@ -1,3 +1,4 @@
+ghost use Rattle.member_set.specs.Inclusion.{ReachHolds, ForcesHold, ResidualsHold, NumbersAreInRange, NodesSuffice};
 ghost use Rattle.member_set.specs.Interval.{FaultsStay};
 ghost use Rattle.member_set.specs.Realisation.{LawsKeepStretch, LinearIsEveryMember, LowerEndsAreRealisation, RestIsEquilibrium};
 
@@ -14,6 +15,18 @@ pub fn laws_keep_stretch()
     ensures keep { LawsKeepStretch }
     ensures every_member { LinearIsEveryMember }
 {}
+
+/// What the intervals of reach, force and residual hold, by their definitions: for displacements and bounds that no call has
+/// met. The members at a row's node are all that have a part in the row.
+pub fn intervals_hold()
+    ensures reaches { ReachHolds }
+    ensures forces { ForcesHold }
+    ensures residuals { ResidualsHold }
+    ensures in_range { NumbersAreInRange }
+    ensures by_node { NodesSuffice }
+{
+    flex_interval::operations_hold();
+}
 
 /// A sum in turn that has met a fault keeps it.
 pub fn faults_stay()

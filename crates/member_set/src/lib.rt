@@ -7,7 +7,7 @@ mod members;
 mod residuals;
 
 pub use forces::{law_force, reach, reach_between};
-pub use laws::{faults_stay, laws_keep_stretch, rest_is_equilibrium};
+pub use laws::{faults_stay, intervals_hold, laws_keep_stretch, rest_is_equilibrium};
 pub use lists::Sequence;
 pub use members::{Built, Law, Member, Station};
 pub use residuals::{

@@ -15,11 +15,14 @@ pub fn analysis(alloc: Global, model: &Model) -> Result<Written, NoMemory>
     requires { IsOneStraight model.now }
     ensures { IfOk result (λ written. IsReport model.now written.bytes.items written.status) }
 {
-    // The laws by which the answers fit the model, and of what a printed pair holds.
+    // The laws by which the answers fit the model, and of what they and a printed pair hold.
     structure::elements_have_their_members();
     bound_laws::passed_test_is_proof();
     certificate::bounds_are_limited();
+    case_run::answers_hold();
     report::printed_pairs_hold();
+    // What every model keeps: its rules.
+    let _nodes = model.nodes();
     let answers = answers(alloc, model, &[0, 1], &[Some(1), None])?;
     let status = ending_with(&answers);
     let bytes = bytes(alloc, model, &answers)?;

@@ -41,7 +41,7 @@ kind-sound nodes node (Anchor kt kr) inside form =
 kind-sound nodes node (Linear dx dy dz k) inside form = All-nil (IsSound nodes)
 kind-sound nodes node (Twist dx dy dz k) inside form = All-nil (IsSound nodes)
 
-restraints-sound : (m : Lists) (rs : List Restraint) → All (λ r. Keeps m (record_of.Restraint r)) rs → All (IsSound (length m.nodes)) (flat_map restraint_members rs)
+pub restraints-sound : (m : Lists) (rs : List Restraint) → All (λ r. Keeps m (record_of.Restraint r)) rs → All (IsSound (length m.nodes)) (flat_map restraint_members rs)
 restraints-sound m [] keep = All-nil (IsSound (length m.nodes))
 restraints-sound m (r ∷ rs) keep =
     let first : Keeps m (record_of.Restraint r) = All-head (λ r. Keeps m (record_of.Restraint r)) r rs keep in

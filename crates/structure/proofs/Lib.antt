@@ -1,3 +1,6 @@
 pub mod TouchingLemmas
 pub mod MemberLemmas
 pub mod BuildingLemmas
+pub mod StiffLaw
+pub mod PlacedLaw
+pub mod NumbersLaw

@@ -72,11 +72,11 @@ members-sound m model n inside more own =
 
 -- ---- how many members a straight has
 
-or_wide-ok : {A B : Type 0} (r : Result A IvFault) (next : A → Result B Wide) (b : B) → or_wide r next ≡ Ok b → (a : A) × (next a ≡ Ok b)
+pub or_wide-ok : {A B : Type 0} (r : Result A IvFault) (next : A → Result B Wide) (b : B) → or_wide r next ≡ Ok b → (a : A) × (next a ≡ Ok b)
 or_wide-ok (Ok a) next b is = (a, is)
 or_wide-ok (Err e) next b is = absurd (cc)
 
-chosen : (t : Bool) (x y : List Member) (w : Wide) → ((if t then Ok x else Err w) ≡ Ok y) → x ≡ y
+pub chosen : (t : Bool) (x y : List Member) (w : Wide) → ((if t then Ok x else Err w) ≡ Ok y) → x ≡ y
 chosen true x y w is = cc
 chosen false x y w is = absurd (cc)
 

@@ -1,15 +1,30 @@
--- That the members of an element enclose the exact straight.
-use Rattle.std.specs.Prelude.{IfOk}
+-- That the members of an element, and those of a structure, enclose the exact straight.
+use Rattle.std.specs.Prelude.{ℕ, ◌+◌, ◌*◌, ◌<◌, length, IfOk}
 use Rattle.angle_table.specs.Pi.{pi_ends}
 use Rattle.flex_interval.specs.Fraction.{Fraction, Within}
+use Rattle.member_set.specs.declared.members.Built.{Built}
+use Rattle.member_set.specs.Members.{member_of}
 use Rattle.model_types.specs.Lists.{Lists}
 use Rattle.model_types.specs.declared.records.Element.{Element}
 use Rattle.member_pairs.specs.Lengths.{IsLengthWithin}
-use Rattle.pipe_element.specs.Straight.{EnclosesStraight}
-use Rattle.structure.specs.Elements.{members_of_element, span_of, tube_of_element}
+use Rattle.member_pairs.specs.Pairs.{EnclosesMember}
+use Rattle.pipe_element.specs.ExactStraight.{Mode, stiffness_of, shape_of}
+use Rattle.pipe_element.specs.Straight.{EnclosesStraight, mode_number}
+use Rattle.structure.specs.Elements.{members_of_element, element_at, span_of, tube_of_element}
 
 -- where an element has members, each of them holds its exact stiffness and shape vector, for every pi and every length
 -- within their enclosures
 abbrev pub EnclosesElement : Lists → Element → Type 0
 EnclosesElement m e =
     IfOk (members_of_element m e) (λ members. (pi l : Fraction) → Within pi_ends pi → IsLengthWithin (span_of m e) l → EnclosesStraight members (tube_of_element m e) (span_of m e) pi l)
+
+-- the same of each element of a model
+abbrev pub EachEncloses : Lists → Type 0
+EachEncloses m = (n : ℕ) → n < length m.elements → EnclosesElement m (element_at m n)
+
+-- in a structure the members from the first of an element on, member 8 n for element n, hold the exact stiffnesses and shape
+-- vectors of the element, for every pi and every length within their enclosures
+abbrev pub EnclosesElements : Lists → Built → Type 0
+EnclosesElements m b = (n : ℕ) (pi l : Fraction) (mode : Mode) → n < length m.elements → Within pi_ends pi → IsLengthWithin (span_of m (element_at m n)) l →
+    EnclosesMember (member_of b (8 * n + mode_number mode))
+    (stiffness_of (tube_of_element m (element_at m n)) (span_of m (element_at m n)) pi l mode) (shape_of (span_of m (element_at m n)) l mode)

@@ -4,3 +4,4 @@ pub mod Anchors
 pub mod Structure
 pub mod Sound
 pub mod Touching
+pub mod Numbers

@@ -6,8 +6,9 @@ use Rattle.lists.specs.Results.{and_then}
 use Rattle.flex_interval.specs.declared.fault.Wide.{Wide}
 use Rattle.member_set.specs.declared.members.Member.{Member}
 use Rattle.member_set.specs.declared.members.Built.{Built}
-use Rattle.member_set.specs.Members.{IsBuilt, member_of, built_nodes, no_member, touches}
+use Rattle.member_set.specs.Members.{IsBuilt, member_of, built_nodes, no_member, touches, AreStiff}
 use Rattle.model_types.specs.Lists.{Lists}
+use Rattle.model_types.specs.Rules.{IsModel}
 use Rattle.structure.specs.Elements.{members_of_element, element_at}
 use Rattle.structure.specs.Anchors.{restraint_members}
 
@@ -53,3 +54,7 @@ pub record IsStructureOf (m : Lists) (b : Built) : Type 0 where
   pub built : IsBuilt b
   pub linear : b.unilateral ≡ []
   pub no_stations : b.stations ≡ []
+
+-- the members of every structure of a model are stiff
+abbrev pub StructuresAreStiff : Type 0
+StructuresAreStiff = (m : Lists) (b : Built) → IsModel m → IsStructureOf m b → AreStiff b

@@ -1,5 +1,6 @@
 ghost use Rattle.std.specs.Prelude.{◌≡◌, IfOk, Err, ℕ};
 ghost use Rattle.structure.specs.Anchors.{HasAnchorsAlone};
+ghost use Rattle.structure.specs.Enclosure.{EachEncloses, EnclosesElements};
 ghost use Rattle.structure.specs.Sound.{AreMembers};
 ghost use Rattle.structure.specs.Structure.{IsStructureOf, model_members};
 ghost use Rattle.member_set.specs.Members.{AreStiff};
@@ -18,6 +19,7 @@ pub fn build(alloc: Global, m: &Model) -> Result<Built, BuildFault>
     requires anchors { HasAnchorsAlone m.now }
     ensures structure { IfOk result (IsStructureOf m.now) }
     ensures stiff { IfOk result AreStiff }
+    ensures encloses { IfOk result (EnclosesElements m.now) }
     ensures wide { (id : ElementId) → result ≡ Err (BuildFault.Wide id) → model_members m.now ≡ Err id.0 }
 {
     let members = model_members(alloc, m)?;
@@ -34,6 +36,7 @@ pub fn build(alloc: Global, m: &Model) -> Result<Built, BuildFault>
 fn model_members(alloc: Global, m: &Model) -> Result<Vec<Member>, BuildFault>
     requires anchors { HasAnchorsAlone m.now }
     ensures members { IfOk result (λ members. AreMembers m.now members.items) }
+    ensures encloses { IfOk result (λ _. EachEncloses m.now) }
     ensures wide { (id : ElementId) → result ≡ Err (BuildFault.Wide id) → model_members m.now ≡ Err id.0 }
 {
     let mut members = all_element_members(alloc, m)?;

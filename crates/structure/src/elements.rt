@@ -6,7 +6,7 @@ ghost use Rattle.model_types.specs.declared.records.Record.TheVariants as record
 ghost use Rattle.section_data.specs.Tube.{IsTube};
 ghost use Rattle.member_pairs.specs.Pairs.{IsMemberOf};
 ghost use Rattle.structure.specs.Elements.{member_count, element_member_count, members_of_element, material_of, no_node, no_section};
-ghost use Rattle.structure.specs.Enclosure.{EnclosesElement};
+ghost use Rattle.structure.specs.Enclosure.{EnclosesElement, EachEncloses};
 ghost use Rattle.structure.specs.Sound.{IsSound};
 ghost use Rattle.structure.specs.Structure.{element_members as all_of};
 
@@ -90,6 +90,7 @@ pub fn all_element_members(alloc: Global, model: &Model) -> Result<Vec<Member>, 
     ensures value { IfOk result (λ members. all_of model.now (length model.now.elements) ≡ Ok members.items) }
     ensures sound { IfOk result (λ members. All (IsSound (length model.now.nodes)) members.items) }
     ensures few { IfOk result (λ members. length members.items ≤ 8 * length model.now.elements) }
+    ensures encloses { IfOk result (λ _. EachEncloses model.now) }
     ensures wide { (id : ElementId) → result ≡ Err (BuildFault.Wide id) → all_of model.now (length model.now.elements) ≡ Err id.0 }
 {
     let mut members = Vec::new(alloc);

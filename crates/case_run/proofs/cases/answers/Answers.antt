@@ -4,7 +4,6 @@ use Rattle.std.proofs.lemmas.Result.{IfOk-weaker}
 use Rattle.model_types.specs.declared.answers.CaseAnswer.{CaseAnswer}
 use Rattle.case_run.specs.Causes.{plan}
 use Rattle.case_run.specs.Certified.{IsCaseAnswer, by_model}
-use Rattle.case_run.specs.Equilibria.{HoldsAlways}
 use Rattle.case_run.proofs.Lists.{each_replicate}
 use Rattle.std.proofs.Common.{◌∙◌}
 use Rattle.case_run.specs.Answers.{base}
@@ -24,13 +23,6 @@ returns-in-Err-Because-clause-answers c =
       answer = λ case a found.
           subst (λ (x : CaseAnswer). IsCaseAnswer m case p x) (sym (each_replicate _ _ case a found)) (by_model cause, refl);
     })
-    c.same_answers.ensures
-
-pub returns-in-Err-Because-clause-hold : goal.returns-in-Err-Because-clause-hold
-returns-in-Err-Because-clause-hold c =
-    IfOk-weaker c.same_answers.result _ _
-    (λ answers is.
-    rw is (λ case a found. subst (λ (x : CaseAnswer). HoldsAlways c.args.m.now case x) (sym (each_replicate _ _ case a found)) (tt {0})))
     c.same_answers.ensures
 
 pub returns-in-Ok-clause-given : goal.returns-in-Ok-clause-given

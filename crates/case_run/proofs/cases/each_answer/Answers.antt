@@ -1,7 +1,6 @@
 use Rattle.std.proofs.Common.{ℕ, arith}
 use Rattle.model_types.specs.declared.answers.CaseAnswer.{CaseAnswer}
 use Rattle.case_run.specs.Certified.{IsCaseAnswer}
-use Rattle.case_run.specs.Equilibria.{HoldsAlways}
 use Rattle.case_run.proofs.Lists.{each_pushed}
 use Rattle.std.proofs.Common.{◌≡◌, length, ap, sym}
 use Rattle.lists.specs.Listed.{listed}
@@ -21,7 +20,6 @@ loop-case-preserved c =
           rw items
           (each_pushed (λ (k : ℕ) (a : CaseAnswer). IsCaseAnswer m k p a) _ _ (before.answers p shared)
           (rw before.count (c.in_ok-case_answer.ensures.answer p shared)));
-      hold = rw items (each_pushed (λ (k : ℕ) (a : CaseAnswer). HoldsAlways m k a) _ _ before.hold (rw before.count c.in_ok-case_answer.ensures.holds));
     }
 
 pub returns-clause-given : goal.returns-clause-given

@@ -4,7 +4,7 @@ use Rattle.std.proofs.lemmas.Result.{err_from_is_err_and}
 use Rattle.load_vectors.specs.Loads.{AreLoads}
 use Rattle.case_run.specs.Certified.{no_loads, no_unshifted_factor, no_candidate, no_bounds, by_case}
 use Rattle.case_run.proofs.Faults.{names_also, names_load, names_solve, names_residual}
-use Rattle.case_run.proofs.Sharing.{is_system, same_realisations}
+use Rattle.case_run.proofs.Sharing.{is_system}
 use Rattle.std.proofs.Common.{ℕ, ◌*◌}
 use Rattle.case_run.proofs.GivenStructure.{loads_given}
 use Rattle.case_run.proofs.GivenTurns.{turns_given}
@@ -69,15 +69,6 @@ returns-clause-bounds c =
         bounds = bounds;
       };
     }
-
-pub returns-clause-encloses : goal.returns-clause-encloses
-returns-clause-encloses c =
-    let fits : FitsSigned w128 c.args.shared.now.lambda = search rules in
-    let encloses = rw (c.deref-3.ensures.value, c.requires.ready.laws, c.deref-4.ensures.value, to_z-of_z fits) at c.in_ok-enclose.ensures.encloses in
-    λ b loads r exact structure loaded real balance.
-    let own = same_realisations c.args.m.now c.args.case.0 c.args.shared.now.b b c.in_ok-loads.loads.items loads r
-    c.requires.ready.structure structure c.in_ok-loads.ensures.loads loaded real in
-    encloses r exact own (c.requires.ready.definite r.stiffness own.stiffness) balance
 
 pub returns-in_err-enclose-clause-cause : goal.returns-in_err-enclose-clause-cause
 returns-in_err-enclose-clause-cause c =

@@ -28,11 +28,6 @@ returns-in-Yes-clause-positive c =
     let fits : FitsSigned w128 c.in-Yes.lambda = search rules in
     rw (to_z-of_z fits) c.in-Yes.ensures.proof.0
 
-pub returns-in-Yes-clause-definite : goal.returns-in-Yes-clause-definite
-returns-in-Yes-clause-definite c =
-    let fits : FitsSigned w128 c.in-Yes.lambda = search rules in
-    rw (to_z-of_z fits) c.in-Yes.ensures.proof.1
-
 pub returns-clause-fails : goal.returns-clause-fails
 returns-clause-fails c =
     row_fails c.in_ok-factor.factor c.in-No.row

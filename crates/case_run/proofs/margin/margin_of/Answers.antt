@@ -31,11 +31,6 @@ returns-in-Ok-clause-margin c =
     let passes = rw (to_z-of_z fits, c.shift_of.ensures.value) at c.in-Ok.ensures.passes in
     rw (to_z-of_z lambda_fits) (record { place = c.loop-place.place; in_range = omega arith; before = c.loop-place.invariant.fail; passes = passes })
 
-pub returns-in-Ok-clause-definite : goal.returns-in-Ok-clause-definite
-returns-in-Ok-clause-definite c =
-    let lambda_fits : FitsSigned w128 c.in-Ok.lambda = search rules in
-    rw (to_z-of_z lambda_fits) c.in-Ok.ensures.definite
-
 pub returns-clause-margin : goal.returns-clause-margin
 returns-clause-margin c =
     let fits : FitsSigned w128 c.shift_of-2.result = search rules in
@@ -44,9 +39,6 @@ returns-clause-margin c =
     IfOk-weaker c.margin_at-2.result _ _
     (λ lambda passes. record { place = last_place; in_range = omega arith; before = before; passes = passes })
     (rw (to_z-of_z fits, c.shift_of-2.ensures.value) at c.margin_at-2.ensures.passes)
-
-pub returns-clause-definite : goal.returns-clause-definite
-returns-clause-definite c = c.margin_at-2.ensures.definite
 
 pub returns-clause-cause : goal.returns-clause-cause
 returns-clause-cause c =

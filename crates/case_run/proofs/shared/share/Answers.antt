@@ -4,7 +4,6 @@ use Rattle.std.proofs.lemmas.Result.{err_from_is_err_and}
 use Rattle.case_run.specs.Causes.{plan, resting_laws}
 use Rattle.case_run.specs.Certified.{no_structure, no_matrices, no_margin}
 use Rattle.case_run.proofs.Faults.{names_also, names_element}
-use Rattle.case_run.proofs.Definite.{definite_stiffness}
 use Rattle.case_run.proofs.Sharing.{factor_for}
 use Rattle.sym_blocks.specs.Matrix.{entry}
 use Rattle.case_run.proofs.Chained.{tells_also, base_no_structure, base_no_matrices, base_no_margin, base_is, unshifted_there}
@@ -38,10 +37,6 @@ returns-clause-ready c =
       stiff = c.in_ok-b.ensures.stiff;
       laws = c.in_ok-laws.ensures;
       positive = rw (to_z-of_z fits) c.in_ok-lambda.ensures.positive;
-      definite = λ k real.
-          rw (to_z-of_z fits)
-          (definite_stiffness c.in_ok-b.b (resting_laws c.in_ok-b.b) k c.in_ok-middles.middles c.in_ok-middles.radii c.in_ok-lambda.lambda
-          c.in_ok-middles.ensures.factorable.nodes_are c.in_ok-lambda.ensures.definite real (c.in_ok-middles.ensures.within k real));
       factor =
           factor_for c.in_ok-b.b (plan c.args.order.now c.args.parents.now) c.in_ok-middles.middles _ _ c.in_ok-factor.factor
           (c.requires.nodes ∙ sym c.in_ok-b.ensures.structure.nodes) c.requires.plan.ordered c.in_ok-factor.ensures.factor c.in_ok-factor.ensures.diagonal;

@@ -1,6 +1,6 @@
 use Rattle.std.proofs.lemmas.Result.{err_from_is_err_and}
 use Rattle.case_run.proofs.Faults.{names_matrix}
-use Rattle.case_run.proofs.Matrices.{all_linear, middles_small, radii_below, radii_not_negative}
+use Rattle.case_run.proofs.Matrices.{middles_small, radii_below, radii_not_negative}
 use Rattle.std.proofs.Common.{ap}
 use Rattle.lists.specs.Results.{named}
 use Rattle.case_run.specs.Answers.{matrix_reason}
@@ -31,10 +31,6 @@ returns-clause-radii c =
       not_negative = radii_not_negative c.args.b.now c.in_ok-middles.radii kept assembled.radii_nodes c.in_ok-middles.ensures.radii;
       below = radii_below c.args.b.now _ c.in_ok-middles.radii kept assembled;
     }
-
-pub returns-clause-within : goal.returns-clause-within
-returns-clause-within c = λ s real i j i_in j_in.
-    rw (c.laws_keep_stretch.ensures.every_member s (λ k _. all_linear (s.member k).law) i j) (c.in_ok-middles.ensures.within _ s real i j i_in j_in)
 
 pub returns-in_err-middles-clause-given : goal.returns-in_err-middles-clause-given
 returns-in_err-middles-clause-given c =

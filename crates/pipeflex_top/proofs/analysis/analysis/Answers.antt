@@ -1,6 +1,5 @@
 use Rattle.std.proofs.Common.{◌≡◌, ◌∙◌, subst, sym}
-use Rattle.pipeflex_top.specs.Analysis.{EndsWith}
-use Rattle.pipeflex_top.specs.Bounds.{PrintBounds}
+use Rattle.pipeflex_top.specs.Analysis.{EndsWith, text_order}
 use Rattle.report.specs.Fits.{AreAnswersOf}
 use Rattle.report.specs.Report.{report_of}
 use Rattle.pipeflex_top.proofs.Fits.{answers_fit}
@@ -26,5 +25,6 @@ returns c =
     record {
       written = subst (λ answers. c.in_ok-bytes.bytes.items ≡ report_of model answers) given written;
       ends = subst (λ answers. EndsWith answers c.ending_with-status.result) (c.deref.ensures.value ∙ given) c.ending_with-status.ensures;
-      told = report_told c.printed_pairs_hold.ensures c.elements_have_their_members.ensures model found.answers.items c.in_ok-bytes.bytes.items c.requires.anchors found.ensures.answers.one_each found.ensures.hold written;
+      told = report_told c.printed_pairs_hold.ensures c.elements_have_their_members.ensures model found.answers.items c.in_ok-bytes.bytes.items c.requires.anchors found.ensures.answers.one_each
+          (c.answers_hold.ensures.all model text_order found.answers.items c.nodes-_nodes.ensures.model found.ensures.answers) written;
     }

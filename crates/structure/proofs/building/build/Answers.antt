@@ -3,6 +3,7 @@ use Rattle.std.proofs.lemmas.Result.{err_from_is_err_and}
 use Rattle.structure.specs.Sound.{AreMembers}
 use Rattle.structure.specs.declared.fault.BuildFault.TheVariants as faults
 use Rattle.structure.proofs.BuildingLemmas.{IsStructureOf-from, nodes_in_range, stiff}
+use Rattle.structure.proofs.PlacedLaw.{encloses_elements}
 use Rattle.structure.proofs.building.build.Goals as goal
 
 pub returns-in_err-members-clause-wide : goal.returns-in_err-members-clause-wide
@@ -29,3 +30,6 @@ pub returns-clause-stiff : goal.returns-clause-stiff
 returns-clause-stiff c =
     let are = subst (AreMembers c.args.m.now) (sym c.new.ensures) c.in_ok-members.ensures.members in
     stiff c.args.m.now c.new.result are
+
+pub returns-clause-encloses : goal.returns-clause-encloses
+returns-clause-encloses c = encloses_elements c.args.m.now _ (returns-clause-structure c) c.in_ok-members.ensures.encloses

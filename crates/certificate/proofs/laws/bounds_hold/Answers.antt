@@ -1,0 +1,8 @@
+use Rattle.certificate.proofs.BoundsLaw.{bounds_hold}
+use Rattle.certificate.proofs.laws.bounds_hold.Goals as goal
+
+pub returns : goal.returns
+returns c =
+    let near = c.equilibria_are_near.ensures in
+    let intervals = c.intervals_hold.ensures in
+    bounds_hold intervals.forces intervals.residuals near.matrix near.near near.enclosed near.root near.radii

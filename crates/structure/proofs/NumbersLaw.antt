@@ -1,0 +1,181 @@
+-- The intervals of a structure hold numbers: those of elements the exact ones, and those of anchors their own.
+use Rattle.std.proofs.Common.{◌≡◌, ℕ, zero, suc, ◌+◌, ◌-◌, ◌*◌, ◌/◌, ◌%◌, ◌<◌, ◌≤◌, ◌^◌, ◌⊎◌, inl, inr, Bool, true, false, refl, sym, subst, ap, ◌∙◌, arith, List, [], ◌∷◌, ◌++◌, length, length-append, get_or, replicate, All, Option, Result, Ok, Err, ℤ, pos, ◌*ℤ◌, ◌+ℤ◌, ◌≤ℤ◌, if◌then◌else◌}
+use Rattle.std.specs.Prelude.{◌==◌, IfOk}
+use Rattle.std.specs.List.{flat_map}
+use Rattle.std.specs.Ordering.{int_eq}
+use Rattle.std.proofs.Math.ListN.{length-replicate}
+use Rattle.std.proofs.lemmas.Int.{ints}
+use Rattle.std.proofs.lemmas.List.{get_or_append_left, get_or-append-add, get_or-replicate}
+use Rattle.std.proofs.lemmas.List.Elements.{All-from_recursion, All-nil, All-append}
+use Rattle.int_laws.proofs.Sums.{int_sums}
+use Rattle.int_laws.proofs.Products.{le_of_mul, one-mul, mul_comm}
+use Rattle.int_laws.specs.Powers.{power}
+use Rattle.flex_num.specs.Root.{root_of, root_up_of}
+use Rattle.angle_table.specs.Pi.{pi_ends}
+use Rattle.flex_interval.specs.Ends.{Ends}
+use Rattle.flex_interval.specs.Fraction.{Fraction, Within}
+use Rattle.flex_interval.specs.Operations.{ends, and_then, is_small, point_of, shifted_of, sqrt_of}
+use Rattle.flex_interval.specs.declared.fault.IvFault.{IvFault}
+use Rattle.flex_interval.specs.declared.fault.IvFault.TheVariants as fault
+use Rattle.member_set.specs.declared.members.Member.{Member}
+use Rattle.member_set.specs.declared.members.Built.{Built}
+use Rattle.member_set.specs.Members.{nothing, no_member, member_of, shape_at}
+use Rattle.model_types.specs.Lists.{Lists}
+use Rattle.model_types.specs.declared.records.Restraint.{Restraint}
+use Rattle.model_types.specs.declared.records.RestraintKind.{RestraintKind}
+use Rattle.model_types.specs.declared.records.RestraintKind.TheVariants.{Anchor, Linear, Twist}
+use Rattle.member_pairs.specs.Axes.{Axis, x_axis, y_axis, z_axis, Motion, translation, rotation, End, from_end, to_end}
+use Rattle.member_pairs.specs.Lengths.{length_of, IsLengthWithin}
+use Rattle.member_pairs.specs.Pairs.{EnclosesMember, EnclosesShape}
+use Rattle.member_pairs.specs.Span.{Span, square_of}
+use Rattle.pipe_element.specs.ExactStraight.{Mode, axial, torsion, bending, shear}
+use Rattle.pipe_element.specs.Straight.{mode_number}
+use Rattle.structure.specs.Anchors.{unit_along, anchor_member, kind_members, restraint_members}
+use Rattle.structure.specs.Elements.{element_at, span_of}
+use Rattle.structure.specs.Enclosure.{EnclosesElements}
+use Rattle.structure.specs.Numbers.{HoldsNumbers, StructuresHoldNumbers}
+use Rattle.structure.specs.Structure.{element_members, model_members, IsStructureOf}
+use Rattle.structure.proofs.StiffLaw.{then_members-ok, whole-is}
+use Rattle.structure.proofs.PlacedLaw.{elements-count}
+
+-- the ends are in order
+abbrev IsOrdered : Ends → Type 0
+IsOrdered e = e.lo ≤ℤ e.hi
+
+-- an interval that holds a number has its ends in order
+ordered : (e : Ends) (x : Fraction) → Within e x → IsOrdered e
+ordered e x within = le_of_mul x.den e.lo e.hi within.defined (omega (arith, int_sums, within.at_least, within.at_most))
+
+lower_within : (e : Ends) → IsOrdered e → Within e (record { num = e.lo; den = pos 1 })
+lower_within e order =
+    record {
+      defined = omega (arith, ints);
+      at_least = omega (arith, int_sums, mul_comm e.lo (pos 1), one-mul e.lo);
+      at_most = omega (arith, int_sums, order, mul_comm e.hi (pos 1), one-mul e.hi);
+    }
+
+-- ---- a length
+
+root_order : (n : ℤ) → root_of n ≤ℤ root_up_of n
+unfolding root_up_of
+root_order n = elim (int_eq (power (root_of n) 2) n) as (λ t. root_of n ≤ℤ (if t then root_of n else root_of n +ℤ pos 1)) [
+  | true ↦ omega (arith, int_sums)
+  | false ↦ omega (arith, int_sums)
+]
+
+abbrev tested : Bool → ℤ → Result ℤ IvFault
+tested t n = if t then Ok n else Err fault.Wide
+
+root_holds : (t : Bool) (n : ℤ) →
+    (l : Fraction) × IfOk (and_then (and_then (tested t n) (λ x. and_then (tested t n) (λ y. Result.Ok (ends x y)))) (λ e. Ok (ends (root_of e.lo) (root_up_of e.hi)))) (λ e. Within e l)
+root_holds true n = (record { num = root_of n; den = pos 1 }, lower_within (ends (root_of n) (root_up_of n)) (root_order n))
+root_holds false n = (record { num = n; den = pos 1 }, tt)
+
+-- the enclosure of a length holds a number
+length_exists : (d : Span) → (l : Fraction) × IsLengthWithin d l
+unfolding length_of sqrt_of shifted_of
+length_exists d = root_holds (is_small (square_of d *ℤ pos (2 ^ 72))) (square_of d *ℤ pos (2 ^ 72))
+
+-- ---- a member of an element
+
+shape_ordered : (m : Member) → ((p : ℕ) → p < 12 → IsOrdered (get_or m.w p nothing)) → (row : ℕ) → IsOrdered (shape_at m row)
+shape_ordered m places row =
+    let none : IsOrdered nothing = omega (arith, ints) in
+    elim (row / 6 == m.n1) as (λ t. IsOrdered (if t then get_or m.w (row % 6) nothing else if row / 6 == m.n2 then get_or m.w (6 + row % 6) nothing else nothing)) [
+      | true ↦ places (row % 6) (omega arith)
+      | false ↦ elim (row / 6 == m.n2) as (λ t. IsOrdered (if t then get_or m.w (6 + row % 6) nothing else nothing)) [
+        | true ↦ places (6 + row % 6) (omega arith)
+        | false ↦ none
+      ]
+    ]
+
+place_holds : (w : List Ends) (exact : End → Motion → Axis → Fraction) → EnclosesShape w exact → (p : ℕ) → p < 12 → IsOrdered (get_or w p nothing)
+place_holds w exact within zero small = ordered _ (exact from_end translation x_axis) (within from_end translation x_axis)
+place_holds w exact within (suc zero) small = ordered _ (exact from_end translation y_axis) (within from_end translation y_axis)
+place_holds w exact within (suc (suc zero)) small = ordered _ (exact from_end translation z_axis) (within from_end translation z_axis)
+place_holds w exact within (suc (suc (suc zero))) small = ordered _ (exact from_end rotation x_axis) (within from_end rotation x_axis)
+place_holds w exact within (suc (suc (suc (suc zero)))) small = ordered _ (exact from_end rotation y_axis) (within from_end rotation y_axis)
+place_holds w exact within (suc (suc (suc (suc (suc zero))))) small = ordered _ (exact from_end rotation z_axis) (within from_end rotation z_axis)
+place_holds w exact within (suc (suc (suc (suc (suc (suc zero)))))) small = ordered _ (exact to_end translation x_axis) (within to_end translation x_axis)
+place_holds w exact within (suc (suc (suc (suc (suc (suc (suc zero))))))) small = ordered _ (exact to_end translation y_axis) (within to_end translation y_axis)
+place_holds w exact within (suc (suc (suc (suc (suc (suc (suc (suc zero)))))))) small = ordered _ (exact to_end translation z_axis) (within to_end translation z_axis)
+place_holds w exact within (suc (suc (suc (suc (suc (suc (suc (suc (suc zero))))))))) small = ordered _ (exact to_end rotation x_axis) (within to_end rotation x_axis)
+place_holds w exact within (suc (suc (suc (suc (suc (suc (suc (suc (suc (suc zero)))))))))) small = ordered _ (exact to_end rotation y_axis) (within to_end rotation y_axis)
+place_holds w exact within (suc (suc (suc (suc (suc (suc (suc (suc (suc (suc (suc zero))))))))))) small = ordered _ (exact to_end rotation z_axis) (within to_end rotation z_axis)
+place_holds w exact within (suc (suc (suc (suc (suc (suc (suc (suc (suc (suc (suc (suc p)))))))))))) small = absurd (omega arith)
+
+mode_at : (j : ℕ) → j < 8 → (mode : Mode) × (mode_number mode ≡ j)
+mode_at zero small = (axial, refl)
+mode_at (suc zero) small = (torsion, refl)
+mode_at (suc (suc zero)) small = (bending x_axis, refl)
+mode_at (suc (suc (suc zero))) small = (bending y_axis, refl)
+mode_at (suc (suc (suc (suc zero)))) small = (bending z_axis, refl)
+mode_at (suc (suc (suc (suc (suc zero))))) small = (shear x_axis, refl)
+mode_at (suc (suc (suc (suc (suc (suc zero)))))) small = (shear y_axis, refl)
+mode_at (suc (suc (suc (suc (suc (suc (suc zero))))))) small = (shear z_axis, refl)
+mode_at (suc (suc (suc (suc (suc (suc (suc (suc j)))))))) small = absurd (omega arith)
+
+pair_holds : (m : Member) (kappa : Fraction) (exact : End → Motion → Axis → Fraction) → EnclosesMember m kappa exact → HoldsNumbers m
+pair_holds m kappa exact encloses =
+    record { stiffness = ordered m.kappa kappa encloses.stiffness; shape = shape_ordered m (place_holds m.w exact encloses.shape) }
+
+-- ---- a member of an anchor
+
+unit_ordered : (freedom p : ℕ) → p < 12 → IsOrdered (get_or (unit_along freedom) p nothing)
+unit_ordered freedom p small =
+    let all : All IsOrdered (unit_along freedom) =
+    All-append IsOrdered (replicate freedom nothing) (point_of (pos (2 ^ 56)) ∷ replicate (11 - freedom) nothing)
+    (none_ordered freedom) (All-append IsOrdered (point_of (pos (2 ^ 56)) ∷ []) (replicate (11 - freedom) nothing)
+    (All-from_recursion IsOrdered (point_of (pos (2 ^ 56)) ∷ []) (omega (arith, ints), tt)) (none_ordered (11 - freedom))) in
+    let inside : p < length (unit_along freedom) =
+    omega (arith, length-append (replicate freedom nothing) (point_of (pos (2 ^ 56)) ∷ replicate (11 - freedom) nothing), length-replicate freedom nothing, length-replicate (11 - freedom) nothing) in
+    all p nothing inside
+  where
+    none_ordered : (n : ℕ) → All IsOrdered (replicate n nothing)
+    none_ordered n = λ k d inside. subst IsOrdered (sym (get_or-replicate n k nothing d (omega (arith, inside, length-replicate n nothing)))) (omega (arith, ints))
+
+anchor_holds : (node : ℕ) (k : Option ℤ) (freedom : ℕ) → HoldsNumbers (anchor_member node k freedom)
+anchor_holds node k freedom = record { stiffness = omega (arith, int_sums); shape = shape_ordered (anchor_member node k freedom) (unit_ordered freedom) }
+
+kind_holds : (node : ℕ) (kind : RestraintKind) → All HoldsNumbers (kind_members node kind)
+kind_holds node (Anchor kt kr) =
+    All-from_recursion HoldsNumbers (kind_members node (Anchor kt kr))
+    (anchor_holds node kt 0, (anchor_holds node kt 1, (anchor_holds node kt 2, (anchor_holds node kr 3, (anchor_holds node kr 4, (anchor_holds node kr 5, tt))))))
+kind_holds node (Linear dx dy dz k) = All-nil HoldsNumbers
+kind_holds node (Twist dx dy dz k) = All-nil HoldsNumbers
+
+restraints_hold : (rs : List Restraint) → All HoldsNumbers (flat_map restraint_members rs)
+restraints_hold [] = All-nil HoldsNumbers
+restraints_hold (r ∷ rs) = All-append HoldsNumbers (restraint_members r) (flat_map restraint_members rs) (kind_holds r.node.0 r.kind) (restraints_hold rs)
+
+-- ---- a structure's
+
+element_holds : (m : Lists) (b : Built) → EnclosesElements m b → (k : ℕ) → k < 8 * length m.elements → HoldsNumbers (member_of b k)
+element_holds m b encloses k below =
+    let mode = mode_at (k % 8) (omega arith) in
+    let l = length_exists (span_of m (element_at m (k / 8))) in
+    let pi_order : IsOrdered pi_ends = omega (arith, ints) in
+    let own = encloses (k / 8) _ l.0 mode.0 (omega arith) (lower_within pi_ends pi_order) l.1 in
+    let place : 8 * (k / 8) + mode_number mode.0 ≡ k = omega (arith, mode.1) in
+    subst (λ (i : ℕ). HoldsNumbers (member_of b i)) place (pair_holds _ _ _ own)
+
+pub structures_hold_numbers : StructuresHoldNumbers
+unfolding model_members
+structures_hold_numbers m b structure encloses k inside =
+    let step = then_members-ok (element_members m (length m.elements)) (λ members. Ok (members ++ flat_map restraint_members m.restraints)) b.members structure.members in
+    let whole = whole-is step.0 (flat_map restraint_members m.restraints) b.members step.2 in
+    let long = elements-count m (length m.elements) step.0 step.1 in
+    let side : (k < 8 * length m.elements) ⊎ (8 * length m.elements ≤ k) = search arith in
+    elim side [
+      | inl below ↦ element_holds m b encloses k below
+      | inr past ↦
+          let rest = k - length step.0 in
+          let place : length step.0 + (k - length step.0) ≡ k = omega (arith, long) in
+          let at : member_of b k ≡ get_or (flat_map restraint_members m.restraints) (k - length step.0) no_member =
+          ap (λ (xs : List Member). get_or xs k no_member) (sym whole)
+          ∙ ap (λ (i : ℕ). get_or (step.0 ++ flat_map restraint_members m.restraints) i no_member) (sym place)
+          ∙ get_or-append-add step.0 (flat_map restraint_members m.restraints) (k - length step.0) no_member in
+          let room : k - length step.0 < length (flat_map restraint_members m.restraints) =
+          omega (arith, long, ap length whole, length-append step.0 (flat_map restraint_members m.restraints)) in
+          subst HoldsNumbers (sym at) (restraints_hold m.restraints (k - length step.0) no_member room)
+    ]
