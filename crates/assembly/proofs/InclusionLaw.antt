@@ -8,7 +8,8 @@ use Rattle.int_laws.proofs.DivisionLemmas.{floor_of-is}
 use Rattle.flex_interval.specs.Ends.{Ends}
 use Rattle.flex_interval.specs.Fraction.{Within}
 use Rattle.flex_interval.specs.Inclusion.{SumHolds, ProductHolds}
-use Rattle.flex_interval.specs.Operations.{and_then, add_of, mul_of, middle_of, radius_of}
+use Rattle.flex_interval.specs.Operations.{add_of, mul_of, middle_of, radius_of}
+use Rattle.lists.specs.Results.{and_then}
 use Rattle.flex_interval.specs.declared.fault.IvFault.TheVariants.{Wide}
 use Rattle.member_set.specs.declared.members.Built.{Built}
 use Rattle.member_set.specs.declared.members.Law.{Law}

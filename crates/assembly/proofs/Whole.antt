@@ -1,8 +1,8 @@
 -- The whole matrices: what stands outside the pattern.
-use Rattle.std.proofs.Common.{◌≡◌, ◌≢◌, ℕ, zero, suc, ◌/◌, ◌<◌, ◌⊎◌, inl, inr, List, length, get_or, slice_index, refl, ap, ◌∙◌, arith, ◌≤◌, false, true, Ok, Err}
+use Rattle.std.proofs.Common.{◌≡◌, ◌≢◌, ℕ, zero, suc, ◌/◌, ◌<◌, ◌⊎◌, inl, inr, List, length, get_or, slice_index, refl, ap, ◌∙◌, arith, ◌≤◌, false, true, Ok, Err, ℤ, pos, ◌*ℤ◌, ◌≤ℤ◌}
 use Rattle.std.specs.Prelude.{Contains, IsOk, Result, is_err, OnOk, OnErr}
 use Rattle.std.proofs.lemmas.Bool.{cases_eq}
-use Rattle.sym_blocks.specs.Matrix.{Matrix, pattern_of, HasBlock}
+use Rattle.sym_blocks.specs.Matrix.{Matrix, pattern_of, HasBlock, entry, node_count as nodes_of, IsSymmetricByBlocks}
 use Rattle.assembly.specs.Filling.{IsFilled, IsWideFrom}
 use Rattle.std.proofs.lemmas.Bool.Decides.{nat_tests}
 use Rattle.std.proofs.lemmas.Grind.{get_or_default_zero}
@@ -15,14 +15,11 @@ use Rattle.member_set.specs.Interval.{Outcome, in_turn}
 use Rattle.int_laws.proofs.Sums.{int_sums}
 use Rattle.int_laws.proofs.Products.{between_zeros, mul_turn, zero-mul, mul_comm, mul_swap}
 use Rattle.int_laws.proofs.SumLaws.{sum_below-zero, sum_below-same}
-use Rattle.std.proofs.Common.{ℤ, pos, ◌*ℤ◌, ◌≤ℤ◌}
 use Rattle.flex_interval.specs.Ends.{Ends}
 use Rattle.member_set.specs.declared.members.Law.{Law}
 use Rattle.member_set.specs.Realisation.{Stiffness, IsStiffnessOf, every_member, exact_entry, entry_unit}
-use Rattle.sym_blocks.specs.Matrix.{entry, node_count as nodes_of, IsSymmetricByBlocks}
 use Rattle.assembly.proofs.Outside.{off_node, product_zero}
-use Rattle.assembly.specs.Stiffness.{AreAssembled, IsWithinRadius}
-use Rattle.assembly.specs.Stiffness.{stiffness_at, HasPatternOf, IsFirstWide, entry_term, entry_sum, upper_entry, Joins, AreJoined}
+use Rattle.assembly.specs.Stiffness.{AreAssembled, IsWithinRadius, stiffness_at, HasPatternOf, IsFirstWide, entry_term, entry_sum, upper_entry, Joins, AreJoined}
 
 nothing_sum : (term : ℕ → Outcome) (n : ℕ) → ((t : ℕ) → t < n → term t ≡ Ok nothing) → in_turn add_of nothing term n ≡ Ok nothing
 unfolding add_of

@@ -3,13 +3,12 @@ use Rattle.std.specs.Prelude.{ℕ, ◌+◌, ◌/◌, ◌^◌, ◌<◌, ◌≡◌
 use Rattle.int_laws.specs.Sums.{sum_below}
 use Rattle.flex_interval.specs.Ends.{Ends}
 use Rattle.flex_interval.specs.Operations.{add_of, mul_of, middle_of, radius_of}
-use Rattle.lists.specs.Results.{and_then}
+use Rattle.lists.specs.Results.{and_then, unless}
 use Rattle.flex_interval.specs.declared.fault.IvFault.TheVariants.{Wide}
 use Rattle.member_set.specs.declared.members.Member.{Member}
 use Rattle.member_set.specs.declared.members.Built.{Built}
 use Rattle.member_set.specs.Members.{nothing, shape_at, member_of, members_at, built_nodes, row_count, touches}
 use Rattle.member_set.specs.Interval.{Outcome, found, in_turn}
-use Rattle.lists.specs.Results.{unless}
 use Rattle.lists.specs.Search.{any_below, first_below}
 use Rattle.int_laws.specs.Matrices.{Entries}
 use Rattle.sym_blocks.specs.Matrix.{Matrix, node_count as nodes_of, entry, HasBlock}

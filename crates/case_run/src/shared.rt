@@ -1,13 +1,12 @@
 ghost use Rattle.std.specs.Prelude.{◌≡◌, ◌<◌, length, IfOk, IfErr, MatchResult, Ok, Err, pos};
 ghost use Rattle.lists.specs.Results.{Gives};
 ghost use Rattle.sym_blocks.specs.Matrix.{entry};
-ghost use Rattle.factor_data.specs.Columns.{factor_entry};
+ghost use Rattle.factor_data.specs.Columns.{factor_entry, HasDiagonal};
 ghost use Rattle.case_run.specs.Answers.{because, base, base_of, factor_at};
 ghost use Rattle.case_run.specs.Faults.{reason_told};
 ghost use Rattle.case_run.specs.Causes.{plan, IsFactorAt, IsBreakdownCause};
 ghost use Rattle.case_run.specs.Certified.{IsModelCause};
 ghost use Rattle.case_run.specs.Shared.{IsReady, IsShared, HasUnshifted};
-ghost use Rattle.factor_data.specs.Columns.{HasDiagonal};
 ghost use Rattle.case_run.specs.Steps.{Names, IsFactorable, IsPlan};
 ghost use Rattle.structure.specs.Anchors.{HasAnchorsAlone};
 

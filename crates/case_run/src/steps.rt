@@ -1,14 +1,12 @@
 ghost use Rattle.std.specs.Prelude.{◌≡◌, ◌<◌, ◌≤◌, ℕ, length, [], IfOk, IfErr, ℤ, pos, ◌≤ℤ◌, ◌^◌};
-ghost use Rattle.member_set.specs.Members.{IsBuilt, built_nodes};
-ghost use Rattle.assembly.specs.Stiffness.{AreAssembled};
+ghost use Rattle.member_set.specs.Members.{IsBuilt, built_nodes, AreStiff};
+ghost use Rattle.assembly.specs.Stiffness.{AreAssembled, matrices_of};
 ghost use Rattle.elimination.specs.Elimination.{AreParents};
 ghost use Rattle.lists.specs.Order.{IsOrder};
 ghost use Rattle.case_run.specs.Causes.{plan, resting_laws, IsFactorAt, IsMatrixCause, IsBreakdownCause, IsElementCause};
 ghost use Rattle.factor_data.specs.Columns.{HasDiagonal, factor_entry};
 ghost use Rattle.case_run.specs.Steps.{Names, IsFactorable, IsRadiusMatrix};
 ghost use Rattle.lists.specs.Results.{named, Gives};
-ghost use Rattle.assembly.specs.Stiffness.{matrices_of};
-ghost use Rattle.member_set.specs.Members.{AreStiff};
 ghost use Rattle.structure.specs.Anchors.{HasAnchorsAlone};
 ghost use Rattle.structure.specs.Structure.{IsStructureOf, structure_of};
 ghost use Rattle.case_run.specs.Answers.{element_reason, matrix_reason, factor_at};

@@ -2,7 +2,7 @@
 use Rattle.std.proofs.Common.{◌≡◌, ℕ, ◌<◌, sym, subst, refl, arith, List, length, Ok, Err, ℤ, pos, ◌*ℤ◌, ◌≤ℤ◌}
 use Rattle.std.specs.Prelude.{IsOk}
 use Rattle.int_laws.proofs.Sums.{int_sums}
-use Rattle.flex_num.specs.Root.{root_up_of}
+use Rattle.int_laws.specs.Root.{root_up_of}
 use Rattle.flex_interval.specs.Ends.{Ends}
 use Rattle.flex_interval.specs.Fraction.{Within}
 use Rattle.int_laws.specs.Matrices.{squared_norm}

@@ -13,8 +13,7 @@ use Rattle.int_laws.proofs.Sums.{int_sums}
 use Rattle.int_laws.proofs.SumLaws.{sum_below-same, sum_below-nonnegative}
 use Rattle.sym_blocks.specs.Matrix.{Matrix as Blocks, node_count, entry as block_entry}
 use Rattle.lists.specs.Rows.{position_of, freedom_at}
-use Rattle.factor_data.specs.Columns.{column_rows, column_values, column_entry, factor_entry, IsFactor}
-use Rattle.factor_data.specs.Columns.{ColumnLists}
+use Rattle.factor_data.specs.Columns.{column_rows, column_values, column_entry, factor_entry, IsFactor, ColumnLists}
 use Rattle.lists.proofs.RowLemmas.{position-below, row-below, position-of_row}
 use Rattle.lists.proofs.PlaceLemmas.{spread-rising}
 use Rattle.lists.proofs.UniqueLemmas.{decide_contains}

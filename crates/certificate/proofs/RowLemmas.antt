@@ -3,8 +3,7 @@ use Rattle.std.proofs.Common.{◌≡◌, ℕ, suc, ◌+◌, ◌*◌, ◌<◌, �
 use Rattle.int_laws.proofs.Sums.{int_sums}
 use Rattle.int_laws.proofs.Products.{mul_nonnegative}
 use Rattle.int_laws.proofs.SumLaws.{sum_below-nonnegative, sum_below-le_more}
-use Rattle.factor_data.specs.Columns.{column_rows, column_values, column_entry}
-use Rattle.factor_data.specs.Columns.{ColumnLists}
+use Rattle.factor_data.specs.Columns.{column_rows, column_values, column_entry, ColumnLists}
 use Rattle.certificate.specs.declared.row_lists.RowEntry.{RowEntry}
 use Rattle.flex_num.specs.declared.guarded.GuardedSum.{GuardedSum}
 use Rattle.int_laws.specs.Matrices.{absolute}

@@ -6,8 +6,7 @@ use Rattle.lists.specs.Search.{any_below, first_below, least_below}
 use Rattle.int_laws.specs.Sums.{sum_below}
 use Rattle.sym_blocks.specs.Matrix.{Matrix as Blocks, node_count, entry as block_entry}
 use Rattle.lists.specs.Rows.{position_of}
-use Rattle.factor_data.specs.Columns.{factor_entry}
-use Rattle.factor_data.specs.Columns.{ColumnLists}
+use Rattle.factor_data.specs.Columns.{factor_entry, ColumnLists}
 use Rattle.certificate.specs.declared.check.Verdict.{Verdict}
 use Rattle.certificate.specs.declared.check.Verdict.TheVariants.{Yes, No}
 use Rattle.int_laws.specs.Matrices.{Entries, absolute}

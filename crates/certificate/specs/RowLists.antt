@@ -4,8 +4,7 @@ use Rattle.int_laws.specs.Sums.{sum_below}
 use Rattle.lists.specs.Lists.{list_of}
 use Rattle.certificate.specs.declared.row_lists.RowEntry.{RowEntry}
 use Rattle.int_laws.specs.Matrices.{Vector, absolute}
-use Rattle.factor_data.specs.Columns.{column_rows, column_values, column_entry}
-use Rattle.factor_data.specs.Columns.{ColumnLists}
+use Rattle.factor_data.specs.Columns.{column_rows, column_values, column_entry, ColumnLists}
 use Rattle.flex_num.specs.declared.guarded.GuardedSum.{GuardedSum}
 use Rattle.certificate.specs.RowSums.{column_size}
 use Rattle.flex_num.specs.Guarded.{value_at, size_at}

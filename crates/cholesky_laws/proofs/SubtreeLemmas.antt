@@ -8,8 +8,7 @@ use Rattle.int_laws.specs.Sums.{sum_below}
 use Rattle.cholesky_laws.specs.Recurrence.{cholesky}
 use Rattle.elimination.specs.Elimination.{parent_of, met_from, is_in_subtree}
 use Rattle.cholesky_laws.specs.Breakdown.{squares}
-use Rattle.int_laws.proofs.SumLaws.{sum_below-same, sum_below-zero, sum_below-add}
-use Rattle.int_laws.proofs.SumLaws.{sum_below-cut, sum_below-by_six}
+use Rattle.int_laws.proofs.SumLaws.{sum_below-same, sum_below-zero, sum_below-add, sum_below-cut, sum_below-by_six}
 
 -- a number where a test holds, else 0
 abbrev pub picked : Bool → ℤ → ℤ

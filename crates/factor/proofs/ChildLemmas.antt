@@ -7,14 +7,13 @@ use Rattle.std.proofs.lemmas.List.{get_or_default, get_or-replicate, get_or_past
 use Rattle.std.proofs.lemmas.List.Elements.{All-contains}
 use Rattle.int_laws.specs.Sums.{sum_below}
 use Rattle.int_laws.proofs.Sums.{int_sums}
-use Rattle.int_laws.proofs.SumLaws.{sum_below-nonnegative}
+use Rattle.int_laws.proofs.SumLaws.{sum_below-nonnegative, sum_below-at_most}
 use Rattle.lists.specs.Rising.{IsRising}
 use Rattle.lists.specs.Order.{place_of}
 use Rattle.lists.proofs.PlaceLemmas.{place_of-at}
 use Rattle.elimination.specs.Elimination.{parent_of, is_parent}
 use Rattle.cholesky_laws.specs.Laws.{RecurrenceLaws}
 use Rattle.cholesky_laws.specs.Breakdown.{Passes, squares}
-use Rattle.int_laws.proofs.SumLaws.{sum_below-at_most}
 use Rattle.factor.specs.Panel.{IsPanel, kept_for}
 use Rattle.factor.specs.State.{ArePanels, IsRowPattern, HoldsChildren}
 use Rattle.factor.specs.declared.panel.Panel.{Panel}

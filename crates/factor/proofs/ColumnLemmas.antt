@@ -4,13 +4,11 @@ use Rattle.std.proofs.lemmas.Bool.{cases_lt, cases_eq, lt-ltb, le-ltb}
 use Rattle.std.proofs.lemmas.List.{get_or_default, get_or_past, get_or_append_left, get_or_push, length_push}
 use Rattle.std.proofs.lemmas.List.Elements.{All-contains}
 use Rattle.lists.specs.Rising.{IsRising}
-use Rattle.lists.specs.Order.{place_of}
+use Rattle.lists.specs.Order.{place_of, IsOrder}
 use Rattle.lists.specs.Lists.{list_of}
-use Rattle.lists.proofs.PlaceLemmas.{place_of-at, at_place_of}
-use Rattle.lists.specs.Order.{IsOrder}
+use Rattle.lists.proofs.PlaceLemmas.{place_of-at, at_place_of, spread-rising, length-rising}
 use Rattle.factor_data.specs.Columns.{columns_of, column_entry, IsFactor}
 use Rattle.lists.proofs.PatternLemmas.{sum-listed, sum-unlisted}
-use Rattle.lists.proofs.PlaceLemmas.{spread-rising, length-rising}
 use Rattle.factor.specs.Panel.{kept_for}
 use Rattle.factor.specs.State.{nodes_at, entries_at}
 use Rattle.factor.specs.Columns.{ArePanelShapes, HasColumns, AreColumnRows, AreColumnValues}

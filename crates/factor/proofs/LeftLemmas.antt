@@ -6,7 +6,7 @@ use Rattle.std.proofs.lemmas.List.{get_or_default}
 use Rattle.int_laws.specs.Sums.{sum_below}
 use Rattle.int_laws.proofs.Sums.{int_sums}
 use Rattle.int_laws.proofs.Products.{mul_comm, zero-mul}
-use Rattle.int_laws.proofs.SumLaws.{sum_below-same, sum_below-zero}
+use Rattle.int_laws.proofs.SumLaws.{sum_below-same, sum_below-zero, sum_below-split}
 use Rattle.lists.specs.Rising.{IsRising}
 use Rattle.lists.specs.Order.{place_of}
 use Rattle.lists.proofs.PlaceLemmas.{place_of-at, place_of-absent, at_place_of}
@@ -15,7 +15,6 @@ use Rattle.cholesky_laws.specs.Laws.{RecurrenceLaws}
 use Rattle.cholesky_laws.specs.Recurrence.{cholesky, left_after, scaled_stiffness}
 use Rattle.lists.specs.Rows.{freedom_at}
 use Rattle.cholesky_laws.specs.Breakdown.{Passes, squares}
-use Rattle.int_laws.proofs.SumLaws.{sum_below-split}
 use Rattle.factor.specs.Panel.{IsPanel, kept_for}
 use Rattle.factor.specs.Gather.{block_product}
 use Rattle.factor.specs.Front.{IsScattered}

@@ -4,14 +4,13 @@ use Rattle.std.specs.Prelude.{Result, IsErrAnd, MatchResult}
 use Rattle.std.proofs.lemmas.Result.{err_from_is_err_and}
 use Rattle.std.proofs.lemmas.Bool.{cases_lt, lt-ltb, le-ltb}
 use Rattle.std.proofs.lemmas.List.{get_or_append_left, get_or_push, length_push, length-map, map_push}
-use Rattle.lists.specs.Lists.{list_of}
+use Rattle.lists.specs.Lists.{list_of, ListsInAll}
 use Rattle.factor_data.specs.Columns.{ColumnLists}
 use Rattle.cholesky_laws.specs.Laws.{RecurrenceLaws}
 use Rattle.cholesky_laws.specs.Recurrence.{cholesky}
 use Rattle.factor.specs.Panel.{kept_for}
 use Rattle.factor.specs.State.{ArePanels, IsRowPattern, IsNodePanel, nodes_at, entries_at, sums_at}
 use Rattle.factor.specs.Columns.{ArePanelShapes, HasColumns}
-use Rattle.lists.specs.Lists.{ListsInAll}
 use Rattle.factor.specs.Scalar.{IsFactorOf, IsBreakdown}
 use Rattle.factor.specs.declared.fault.ScalarFault.{ScalarFault}
 use Rattle.factor.specs.declared.fault.ScalarFault.TheVariants.{NoMemory}

@@ -1,13 +1,12 @@
 ghost use Rattle.std.specs.Prelude.{◌≡◌, ℕ, ◌*◌, ◌^◌, ◌<◌, ◌≤◌, All, IfOk, OnOk, MatchResult, length, replicate, slice_index, [], pos, ◌≤ℤ◌};
 ghost use Rattle.std.specs.Int.RustNames.{unsigned_abs};
 ghost use Rattle.lists.specs.Rising.{IsRising};
-ghost use Rattle.lists.specs.Lists.{contents, list_of};
+ghost use Rattle.lists.specs.Lists.{contents, list_of, ListsInAll};
 ghost use Rattle.sym_blocks.specs.Matrix.{node_count, entry};
 ghost use Rattle.lists.specs.Order.{IsOrder};
 ghost use Rattle.factor.specs.State.{IsProblem, matrix_of};
 ghost use Rattle.elimination.specs.Elimination.{AreParents};
 ghost use Rattle.factor.specs.Columns.{ArePanelShapes, HasColumns, AreColumnRows, AreColumnValues};
-ghost use Rattle.lists.specs.Lists.{ListsInAll};
 ghost use Rattle.factor_data.specs.Columns.{HasDiagonal};
 ghost use Rattle.factor.specs.Scalar.{IsFactorOf, IsBreakdown};
 

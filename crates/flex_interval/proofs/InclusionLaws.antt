@@ -8,7 +8,8 @@ use Rattle.flex_interval.specs.Ends.{Ends}
 use Rattle.flex_interval.specs.Fraction.{Fraction, Within, scaled, times, plus, minus, negated}
 use Rattle.flex_interval.specs.declared.fault.IvFault.{IvFault}
 use Rattle.flex_interval.specs.declared.fault.IvFault.TheVariants as fault
-use Rattle.flex_interval.specs.Operations.{ends, and_then, is_small, small_of, neg_of, add_of, sub_of, multiple_of, products_of, mul_of}
+use Rattle.flex_interval.specs.Operations.{ends, is_small, small_of, neg_of, add_of, sub_of, multiple_of, products_of, mul_of}
+use Rattle.lists.specs.Results.{and_then}
 use Rattle.flex_interval.specs.Inclusion.{SumHolds, DifferenceHolds, ProductHolds}
 use Rattle.flex_interval.proofs.EndsLemmas.{min_first, min_second, max_first, max_second}
 use Rattle.flex_interval.proofs.FractionLemmas.{multiple_within, rounded_within, power_positive}

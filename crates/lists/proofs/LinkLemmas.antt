@@ -1,10 +1,8 @@
 -- Lists of numbers, as pairs are put in.
-use Rattle.lists.specs.Lists.{list_of}
+use Rattle.lists.specs.Lists.{list_of, LinksLists, ListsNumber}
 use Rattle.std.proofs.Common.{◌≡◌, ℕ, List, [], ◌∷◌, ◌++◌, get_or, Contains, inl, inr, ◌↔◌, ◌∙◌, sym, ap, refl, arith, subst}
 use Rattle.std.proofs.lemmas.List.Elements.{Contains-append_left, Contains-append_right, Contains-append_cases}
 use Rattle.lists.specs.Rising.{IsRising}
-use Rattle.lists.specs.Lists.{LinksLists}
-use Rattle.lists.specs.Lists.{ListsNumber}
 
 -- a pair is listed alone
 Contains-one : (a b n k : ℕ) → Contains {X = ℕ × ℕ} ((n, k) ∷ []) (a, b) ↔ ((a ≡ n) × (b ≡ k))

@@ -2,8 +2,7 @@
 use Rattle.std.proofs.Common.{ℕ, List, [], ◌∷◌, ◌++◌, Contains, inl, inr, ◌∙◌, sym, refl, arith, subst}
 use Rattle.std.proofs.lemmas.List.Elements.{Contains-append_left, Contains-push_cases, Contains-push}
 use Rattle.lists.specs.Rising.{IsRising}
-use Rattle.lists.specs.Lists.{list_of, ListsNumber}
-use Rattle.lists.specs.Lists.{ListsInAll}
+use Rattle.lists.specs.Lists.{list_of, ListsNumber, ListsInAll}
 
 pub lists_none : (a : List (List ℕ)) (x : ℕ) → ((q : ℕ) → IsRising (list_of a q)) → ListsInAll a a [] x
 lists_none a x up =

@@ -5,10 +5,9 @@ use Rattle.int_laws.specs.Sums.{sum_below}
 use Rattle.flex_interval.specs.Ends.{Ends}
 use Rattle.flex_interval.specs.Fraction.{Fraction, Within}
 use Rattle.flex_interval.specs.Operations.{point_of, add_of, ratio_of}
-use Rattle.lists.specs.Results.{and_then}
+use Rattle.lists.specs.Results.{and_then, unless}
 use Rattle.member_set.specs.Members.{nothing, load_of}
 use Rattle.lists.specs.Listed.{listed}
-use Rattle.lists.specs.Results.{unless}
 use Rattle.lists.specs.Search.{first_below}
 use Rattle.member_set.specs.Interval.{Outcome, found, in_turn, limited_force}
 use Rattle.model_types.specs.Lists.{Lists}

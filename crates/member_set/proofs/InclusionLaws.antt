@@ -8,17 +8,18 @@ use Rattle.int_laws.specs.Matrices.{Vector}
 use Rattle.flex_interval.specs.Ends.{Ends}
 use Rattle.flex_interval.specs.Fraction.{Within}
 use Rattle.flex_interval.specs.Inclusion.{SumHolds, DifferenceHolds, ProductHolds}
-use Rattle.flex_interval.specs.Operations.{and_then, add_of, sub_of, mul_of}
+use Rattle.flex_interval.specs.Operations.{add_of, sub_of, mul_of}
+use Rattle.lists.specs.Results.{and_then}
 use Rattle.flex_interval.specs.declared.fault.IvFault.TheVariants.{Wide}
 use Rattle.member_set.specs.declared.members.Member.{Member}
 use Rattle.member_set.specs.declared.members.Law.{Law}
 use Rattle.member_set.specs.declared.members.Law.TheVariants.{Linear}
 use Rattle.member_set.specs.Members.{nothing, shape_at, member_of, members_at, law_of, load_of, row_count}
 use Rattle.member_set.specs.Realisation.{ExactMember, IsMemberWithin, IsOffsetWithin, exact_reach, exact_force, force_in, exact_load, displaced, fraction, reach_fraction, force_fraction, pull_fraction}
-use Rattle.member_set.specs.Interval.{Outcome, in_turn, place_count, row_of, points, reach_term, reach_of, law_force_of, limited_force, member_force_of, pull_of, residual_term, residual_with}
+use Rattle.member_set.specs.Interval.{Outcome, in_turn, place_count, touched_row, points, reach_term, reach_of, law_force_of, limited_force, member_force_of, pull_of, residual_term, residual_with}
 use Rattle.member_set.specs.Inclusion.{ReachHolds, ForcesHold, ResidualsHold}
 use Rattle.member_set.proofs.Fractions.{square_unit, product_within, reach_sum_within, force_within, pull_within, pull_less_within, pull_taken, load_within}
-use Rattle.member_set.proofs.Rows.{row_of-inside, shape_at-row_of, reach_by_places, nothing_is_zero}
+use Rattle.member_set.proofs.Rows.{touched_row-inside, shape_at-touched_row, reach_by_places, nothing_is_zero}
 use Rattle.member_set.proofs.Touching.{ok_of, numbers_in_range, resistance_by_node}
 use Rattle.member_set.proofs.Turns.{first_of, in_turn_holds}
 
@@ -36,13 +37,13 @@ none_reached q positive =
 pub reach_holds : SumHolds → ProductHolds → ReachHolds
 unfolding reach_of
 reach_holds sums products m displacement rows e q x u first second positive shape within is =
-    let part : ℕ → ℤ = λ p. x.shape (row_of m p) *ℤ u (row_of m p) in
-    let turned = in_turn_holds add_of nothing (reach_term m displacement) (place_count m) (λ p total. Within total (reach_fraction q (sum_below p (λ p. x.shape (row_of m p) *ℤ u (row_of m p)))))
+    let part : ℕ → ℤ = λ p. x.shape (touched_row m p) *ℤ u (touched_row m p) in
+    let turned = in_turn_holds add_of nothing (reach_term m displacement) (place_count m) (λ p total. Within total (reach_fraction q (sum_below p (λ p. x.shape (touched_row m p) *ℤ u (touched_row m p)))))
     (none_reached q positive)
     (λ p total next after inside before here now.
-    let own = rw (shape_at-row_of m p inside) at (shape (row_of m p)) in
-    let there = within (row_of m p) (row_of-inside m rows p inside first second) in
-    let term = product_within next (x.shape (row_of m p)) (u (row_of m p)) q positive (products _ _ next 56 _ _ here own there) in
+    let own = rw (shape_at-touched_row m p inside) at (shape (touched_row m p)) in
+    let there = within (touched_row m p) (touched_row-inside m rows p inside first second) in
+    let term = product_within next (x.shape (touched_row m p)) (u (touched_row m p)) q positive (products _ _ next 56 _ _ here own there) in
     reach_sum_within after total next q _ _ positive before term (λ v w in_v in_w. sums total next after v w now in_v in_w))
     e is in
     let none : (row : ℕ) → shape_at m row ≡ nothing → x.shape row ≡ pos 0 = λ row off. nothing_is_zero (x.shape row) q (rw off at (shape row)) in

@@ -34,9 +34,8 @@ use Rattle.certificate.specs.Bounds.{BoundsAreLimited, HasLimitedEnds}
 use Rattle.certificate.specs.Checker.{test_of}
 use Rattle.bound_laws.specs.Definiteness.{PassedTestIsProof}
 use Rattle.structure.specs.Anchors.{IsAnchor, kind_members, restraint_members}
-use Rattle.structure.specs.Elements.{element_at, members_of_element}
+use Rattle.structure.specs.Elements.{element_at, members_of_element, ElementsHaveTheirMembers, element_member_count, member_count, member_count_below}
 use Rattle.structure.specs.Structure.{Members, element_members, model_members, with_element, then_members}
-use Rattle.structure.specs.Elements.{ElementsHaveTheirMembers, element_member_count, member_count, member_count_below}
 use Rattle.report.specs.Fits.{AreAnswersOf, AreModest, FitsModel, IsModest}
 use Rattle.report.specs.Report.{load_count, loads_count}
 use Rattle.case_run.specs.Causes.{Plan, resting_laws}

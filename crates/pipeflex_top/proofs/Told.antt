@@ -4,7 +4,7 @@ use Rattle.std.proofs.lemmas.List.{get_or-map}
 use Rattle.std.proofs.lemmas.List.Sums.{sum_by_more_le}
 use Rattle.std.proofs.lemmas.Option.{slice_get-get_or}
 use Rattle.std.specs.List.{flat_map}
-use Rattle.structure.specs.Elements.{element_member_count}
+use Rattle.structure.specs.Elements.{element_member_count, ElementsHaveTheirMembers}
 use Rattle.case_run.specs.Equilibria.{AreWithin, OfEquilibria, HoldsAlways, HoldAlways}
 use Rattle.load_vectors.specs.Loads.{case_at, no_case}
 use Rattle.member_set.specs.Realisation.{force_in, fraction, force_fraction}
@@ -18,7 +18,6 @@ use Rattle.model_types.specs.declared.records.Restraint.{Restraint}
 use Rattle.report.specs.Report.{Word, answer_lines, bounds_at, case_lines, end_lines, head_lines, load_count, loads_before, loads_count, loads_of, node_bounds, node_lines, report_of, restraint_bounds, restraint_lines}
 use Rattle.report.specs.Rounding.{PrintedHolds}
 use Rattle.structure.specs.Anchors.{HasAnchorsAlone}
-use Rattle.structure.specs.Elements.{ElementsHaveTheirMembers}
 use Rattle.text_words.specs.Fields.{line}
 use Rattle.pipeflex_top.specs.Told.{ArePaired, IsCaseText, certified, uncertified, IsReportText, node_displacements, restraint_loads}
 use Rattle.pipeflex_top.proofs.Fits.{model_has}

@@ -5,8 +5,7 @@ use Rattle.int_laws.specs.Sums.{sum_below}
 use Rattle.int_laws.proofs.Products.{zero-mul}
 use Rattle.int_laws.proofs.SumLaws.{sum_below-same, sum_below-reindexed}
 use Rattle.lists.specs.Order.{IsSpread}
-use Rattle.factor_data.specs.Columns.{IsFactor, column_rows, column_part, column_entry}
-use Rattle.factor_data.specs.Columns.{ColumnLists}
+use Rattle.factor_data.specs.Columns.{IsFactor, column_rows, column_part, column_entry, ColumnLists}
 use Rattle.lists.proofs.PatternLemmas.{sum-listed, sum-unlisted}
 use Rattle.lists.proofs.UniqueLemmas.{decide_contains}
 use Rattle.lists.proofs.PlaceLemmas.{spread-rising}

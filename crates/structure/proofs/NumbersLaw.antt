@@ -10,11 +10,12 @@ use Rattle.std.proofs.lemmas.List.Elements.{All-from_recursion, All-nil, All-app
 use Rattle.int_laws.proofs.Sums.{int_sums}
 use Rattle.int_laws.proofs.Products.{le_of_mul, one-mul, mul_comm}
 use Rattle.int_laws.specs.Powers.{power}
-use Rattle.flex_num.specs.Root.{root_of, root_up_of}
+use Rattle.int_laws.specs.Root.{root_of, root_up_of}
 use Rattle.angle_table.specs.Pi.{pi_ends}
 use Rattle.flex_interval.specs.Ends.{Ends}
 use Rattle.flex_interval.specs.Fraction.{Fraction, Within}
-use Rattle.flex_interval.specs.Operations.{ends, and_then, is_small, point_of, shifted_of, sqrt_of}
+use Rattle.flex_interval.specs.Operations.{ends, is_small, point_of, shifted_of, sqrt_of}
+use Rattle.lists.specs.Results.{and_then}
 use Rattle.flex_interval.specs.declared.fault.IvFault.{IvFault}
 use Rattle.flex_interval.specs.declared.fault.IvFault.TheVariants as fault
 use Rattle.member_set.specs.declared.members.Member.{Member}

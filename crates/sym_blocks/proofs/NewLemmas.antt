@@ -1,5 +1,5 @@
 -- The matrix of zeros that pairs make.
-use Rattle.lists.specs.Lists.{list_of}
+use Rattle.lists.specs.Lists.{list_of, LinksLists}
 use Rattle.std.proofs.Common.{◌≡◌, ℕ, ◌/◌, ◌%◌, ◌<◌, ◌≤◌, List, [], ◌∷◌, length, get_or, replicate, Contains, All, inl, inr, ◌↔◌, ◌∙◌, sym, ap, refl, arith, subst, ℤ, pos}
 use Rattle.std.specs.Int.RustNames.{unsigned_abs}
 use Rattle.std.proofs.lemmas.Bool.{cases_lt}
@@ -10,7 +10,6 @@ use Rattle.lists.specs.Rising.{IsRising}
 use Rattle.lists.specs.Order.{place_of}
 use Rattle.sym_blocks.specs.Matrix.{entry, IsLinked}
 use Rattle.sym_blocks.specs.Storage.{Block, own_lists_of, zero_block, zero_blocks_of, block_beside, at_place, stored, stored_matrix, IsStorage, IsWhole}
-use Rattle.lists.specs.Lists.{LinksLists}
 use Rattle.sym_blocks.proofs.StorageLemmas.{entry-stored_matrix}
 
 -- ---- each node with itself alone

@@ -1,8 +1,7 @@
-ghost use Rattle.lists.specs.Lists.{contents, list_of};
+ghost use Rattle.lists.specs.Lists.{contents, list_of, LinksLists};
 ghost use Rattle.std.specs.Prelude.{◌≡◌, ◌∷◌, ◌↔◌, OnOk, ℕ, ◌+◌, ◌*◌, ◌/◌, ◌^◌, ◌<◌, IfOk, Contains, All, ℤ, pos, ◌+ℤ◌, length, slice_index_or, [], replicate};
 ghost use Rattle.lists.specs.Rising.{IsRising};
 ghost use Rattle.sym_blocks.specs.Storage.{own_lists_of, zero_block, zero_blocks_of, stored, IsLayout, IsStorage, AddsToStored, AddsBoth};
-ghost use Rattle.lists.specs.Lists.{LinksLists};
 ghost use Rattle.std.specs.Int.RustNames.{unsigned_abs};
 
 use lists::{find_rising, link_pairs};

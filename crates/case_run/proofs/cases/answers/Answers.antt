@@ -1,11 +1,10 @@
-use Rattle.std.proofs.Common.{refl, sym, subst}
+use Rattle.std.proofs.Common.{refl, sym, subst, ◌∙◌}
 use Rattle.std.proofs.Math.ListN.{length-replicate}
 use Rattle.std.proofs.lemmas.Result.{IfOk-weaker}
 use Rattle.model_types.specs.declared.answers.CaseAnswer.{CaseAnswer}
 use Rattle.case_run.specs.Causes.{plan}
 use Rattle.case_run.specs.Certified.{IsCaseAnswer, by_model}
 use Rattle.case_run.proofs.Lists.{each_replicate}
-use Rattle.std.proofs.Common.{◌∙◌}
 use Rattle.case_run.specs.Answers.{base}
 use Rattle.case_run.proofs.Chained.{answers_by_base, answers_by_reason}
 use Rattle.case_run.proofs.cases.answers.Goals as goal

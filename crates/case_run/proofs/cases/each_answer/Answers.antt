@@ -1,8 +1,7 @@
-use Rattle.std.proofs.Common.{ℕ, arith}
+use Rattle.std.proofs.Common.{ℕ, arith, ◌≡◌, length, ap, sym}
 use Rattle.model_types.specs.declared.answers.CaseAnswer.{CaseAnswer}
 use Rattle.case_run.specs.Certified.{IsCaseAnswer}
 use Rattle.case_run.proofs.Lists.{each_pushed}
-use Rattle.std.proofs.Common.{◌≡◌, length, ap, sym}
 use Rattle.lists.specs.Listed.{listed}
 use Rattle.case_run.proofs.Chained.{listed_more}
 use Rattle.case_run.proofs.cases.each_answer.Goals as goal

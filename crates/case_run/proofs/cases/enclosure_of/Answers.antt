@@ -1,11 +1,10 @@
-use Rattle.std.proofs.Common.{◌∙◌, Err, ap, sym, subst, to_z-of_z, rules, FitsSigned}
+use Rattle.std.proofs.Common.{◌∙◌, Err, ap, sym, subst, to_z-of_z, rules, FitsSigned, ℕ, ◌*◌}
 use Rattle.std.specs.Int.{w128}
 use Rattle.std.proofs.lemmas.Result.{err_from_is_err_and}
 use Rattle.load_vectors.specs.Loads.{AreLoads}
 use Rattle.case_run.specs.Certified.{no_loads, no_unshifted_factor, no_candidate, no_bounds, by_case}
 use Rattle.case_run.proofs.Faults.{names_also, names_load, names_solve, names_residual}
 use Rattle.case_run.proofs.Sharing.{is_system}
-use Rattle.std.proofs.Common.{ℕ, ◌*◌}
 use Rattle.case_run.proofs.GivenStructure.{loads_given}
 use Rattle.case_run.proofs.GivenTurns.{turns_given}
 use Rattle.case_run.proofs.GivenBounds.{bounds_given}

@@ -1,7 +1,6 @@
-use Rattle.std.proofs.Common.{to_z-of_z}
+use Rattle.std.proofs.Common.{to_z-of_z, ap}
 use Rattle.std.proofs.lemmas.Result.{err_from_is_err_and}
 use Rattle.case_run.proofs.Faults.{names_breakdown}
-use Rattle.std.proofs.Common.{ap}
 use Rattle.lists.specs.Results.{named}
 use Rattle.sym_blocks.specs.Matrix.{entry}
 use Rattle.case_run.specs.Answers.{breakdown_reason}

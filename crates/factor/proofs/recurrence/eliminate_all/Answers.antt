@@ -6,11 +6,10 @@ use Rattle.std.proofs.lemmas.List.{with_items_is}
 use Rattle.std.proofs.lemmas.Grind.{common_steps}
 use Rattle.std.proofs.Math.ListN.{length-replicate}
 use Rattle.lists.specs.Rising.{IsRising}
-use Rattle.lists.specs.Lists.{contents, list_of}
+use Rattle.lists.specs.Lists.{contents, list_of, ListsInAll}
 use Rattle.lists.proofs.ListsLemmas.{contents-read, length-contents}
 use Rattle.factor.specs.State.{matrix_of, ArePanels, IsRowPattern}
 use Rattle.factor.specs.Columns.{HasColumns}
-use Rattle.lists.specs.Lists.{ListsInAll}
 use Rattle.factor.specs.Scalar.{IsBreakdownAt}
 use Rattle.factor.specs.declared.panel.Panel.{Panel}
 use Rattle.factor.specs.declared.fault.ScalarFault.{ScalarFault}

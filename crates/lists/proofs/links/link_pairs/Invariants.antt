@@ -1,6 +1,5 @@
-use Rattle.lists.specs.Lists.{contents}
+use Rattle.lists.specs.Lists.{contents, LinksLists}
 use Rattle.std.proofs.Common.{take}
-use Rattle.lists.specs.Lists.{LinksLists}
 use Rattle.lists.proofs.links.link_pairs.Given as goal
 
 abbrev pub invariant-loop-n : goal.invariant-loop-n

@@ -1,6 +1,5 @@
 use Rattle.std.proofs.Common.{take}
-use Rattle.lists.specs.Lists.{contents}
-use Rattle.lists.specs.Lists.{ListsInAll}
+use Rattle.lists.specs.Lists.{contents, ListsInAll}
 use Rattle.lists.proofs.links.list_in_all.Given as goal
 
 abbrev pub invariant-loop-list : goal.invariant-loop-list

@@ -1,5 +1,4 @@
-use Rattle.lists.proofs.ListsLemmas.{contents-read}
-use Rattle.lists.proofs.ListsLemmas.{ListsNumber-set, on_ok_both}
+use Rattle.lists.proofs.ListsLemmas.{contents-read, ListsNumber-set, on_ok_both}
 use Rattle.lists.proofs.links.list_number.Goals as goal
 
 pub insert_rising-requires : goal.insert_rising-requires

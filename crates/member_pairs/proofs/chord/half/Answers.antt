@@ -1,5 +1,4 @@
-use Rattle.member_pairs.specs.Lengths.{half_of}
-use Rattle.member_pairs.specs.Lengths.{half_length}
+use Rattle.member_pairs.specs.Lengths.{half_of, half_length}
 use Rattle.member_pairs.proofs.chord.half.Goals as goal
 
 pub returns-clause-value : goal.returns-clause-value

@@ -1,7 +1,6 @@
 use Rattle.std.proofs.Common.{to_z-of_z}
 use Rattle.std.proofs.lemmas.Result.{err_from_is_err_and}
-use Rattle.member_pairs.specs.Lengths.{tangent}
-use Rattle.member_pairs.specs.Lengths.{tangent_of}
+use Rattle.member_pairs.specs.Lengths.{tangent, tangent_of}
 use Rattle.member_pairs.proofs.WayLemmas.{part_fits}
 use Rattle.member_pairs.proofs.chord.tangent.Goals as goal
 

@@ -1,10 +1,9 @@
 use Rattle.lists.proofs.ListsLemmas.{length-contents}
-use Rattle.lists.specs.Lists.{contents}
+use Rattle.lists.specs.Lists.{contents, LinksLists}
 use Rattle.std.proofs.Common.{◌≡◌, ◌∙◌, ap, sym, arith, length}
 use Rattle.std.specs.Vec.{with_items}
 use Rattle.std.proofs.lemmas.List.{with_items_is}
 use Rattle.sym_blocks.specs.Storage.{own_lists_of, zero_blocks_of}
-use Rattle.lists.specs.Lists.{LinksLists}
 use Rattle.sym_blocks.proofs.StorageLemmas.{IsSymmetricByBlocks-stored_matrix}
 use Rattle.sym_blocks.proofs.NewLemmas.{length-own_lists_of, IsStorage-new, IsRising-own, entry-zero, members_linked}
 use Rattle.sym_blocks.proofs.blocks.SymBlocks.new.Goals as goal
