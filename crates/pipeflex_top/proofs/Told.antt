@@ -58,7 +58,10 @@ answer_told : PrintedHolds → ElementsHaveEightMembers → (m : Lists) (case : 
 answer_told holds eight m case (Certified u loads states) anchors always =
     let last = restraint_lines m.restraints loads in
     certified (node_lines m.nodes u ++ last) (
-      node_bounds u, last, refl, nodes_paired holds m case u loads always,
+      node_bounds u,
+      last,
+      refl,
+      nodes_paired holds m case u loads always,
       (restraint_bounds m.restraints loads, [], sym (append-nil last), restraints_paired holds eight m case u loads anchors always, refl),
     )
 answer_told holds eight m case (Uncertified cause guess) anchors always = uncertified cause guess
