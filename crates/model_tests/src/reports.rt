@@ -1,6 +1,7 @@
 //! Whole reports, as they are worked out by hand from the mechanics of a pipe of one metre.
 ghost use Rattle.std.specs.Prelude.{◌≡◌, length, IsTrue, All};
-ghost use Rattle.report.specs.Fits.{AreModest, FitsModel, IsCauseIn, IsGuess, IsModest, loads_count};
+ghost use Rattle.report.specs.Fits.{AreModest, FitsModel, IsCauseIn, IsGuess, IsModest};
+ghost use Rattle.report.specs.Report.{loads_count};
 
 use crate::makers::model;
 use model_types::{

@@ -57,7 +57,10 @@ answer_told : PrintedHolds → ElementsHaveTheirMembers → (m : Lists) (case : 
 answer_told holds counts m case (Certified u loads states) anchors always =
     let last = restraint_lines m.restraints loads in
     certified (node_lines m.nodes u ++ last) (
-      node_bounds u, last, refl, nodes_paired holds m case u loads always,
+      node_bounds u,
+      last,
+      refl,
+      nodes_paired holds m case u loads always,
       (restraint_bounds m.restraints loads, [], sym (append-nil last), restraints_paired holds counts m case u loads anchors always, refl),
     )
 answer_told holds counts m case (Uncertified cause guess) anchors always = uncertified cause guess

@@ -15,16 +15,16 @@ use Rattle.report.specs.Report.{Word, bounds_lines, candidate_lines, end_lines, 
 use Rattle.report.specs.Rounding.{ends_of_pair}
 use Rattle.text_words.specs.Fields.{line}
 
--- what a report bounds of a kind of record: how many records there are, what stands first in the line of each, how many pairs
--- follow, and the exact number of each pair in the unit of the report
-pub record Kind : Type 0 where
+-- what a report tells of one kind of record: how many records there are, what stands first in the line of each, how many
+-- pairs follow, and the exact number of each pair in the unit of the report
+pub record Telling : Type 0 where
   pub count : ℕ
   pub key : ℕ → List Word
   pub pairs : ℕ → ℕ
   pub number : Realisation → Vector → ℕ → ℕ → Fraction
 
 -- the six displacements of each node, in nanometres and nanoradians
-abbrev pub node_displacements : Lists → Kind
+abbrev pub node_displacements : Lists → Telling
 node_displacements m = record {
   count = length m.nodes;
   key = node_key m.nodes;
@@ -33,7 +33,7 @@ node_displacements m = record {
 }
 
 -- the loads of each restraint, in mN and mN m
-abbrev pub restraint_loads : Lists → Kind
+abbrev pub restraint_loads : Lists → Telling
 restraint_loads m = record {
   count = length m.restraints;
   key = restraint_key m.restraints;
@@ -41,25 +41,25 @@ restraint_loads m = record {
   number = λ r exact n f. scaled (force_fraction r.stiffness.denominator (force_in r exact (element_member_count m + (loads_before m.restraints n + f)))) (pos 1000) (pos (2 ^ 40));
 }
 
--- the kinds of record that a certified case tells of, in their order
-abbrev pub kinds : Lists → List Kind
-kinds m = node_displacements m ∷ restraint_loads m ∷ []
+-- what is told of a certified case, in its order
+abbrev pub tellings : Lists → List Telling
+tellings m = node_displacements m ∷ restraint_loads m ∷ []
 
--- each number of a kind is within its pair, in every equilibrium of every realisation under the loads of the case
-abbrev pub ArePaired : Lists → ℕ → Kind → (ℕ → ℕ → Bounds) → Type 0
-ArePaired m case k pair =
-    OfEquilibria m case (λ r exact. (n f : ℕ) → n < k.count → f < k.pairs n → Within (ends_of_pair (pair n f)) (k.number r exact n f))
+-- each number that is told of is within its pair, in every equilibrium of every realisation under the loads of the case
+abbrev pub ArePaired : Lists → ℕ → Telling → (ℕ → ℕ → Bounds) → Type 0
+ArePaired m case t pair =
+    OfEquilibria m case (λ r exact. (n f : ℕ) → n < t.count → f < t.pairs n → Within (ends_of_pair (pair n f)) (t.number r exact n f))
 
--- the lines are those of the kinds, one kind after another: a line for each record, with pairs that hold its numbers
-abbrev pub AreTold : Lists → ℕ → List Kind → List (List Word) → Type 0
+-- the lines tell all of these, one after another: a line for each record, with pairs that hold its numbers
+abbrev pub AreTold : Lists → ℕ → List Telling → List (List Word) → Type 0
 AreTold m case [] lines = lines ≡ []
-AreTold m case (k ∷ others) lines =
-    (pair : ℕ → ℕ → Bounds) × (rest : List (List Word)) × (lines ≡ bounds_lines k.count k.key k.pairs pair ++ rest)
-    × ArePaired m case k pair × AreTold m case others rest
+AreTold m case (t ∷ others) lines =
+    (pair : ℕ → ℕ → Bounds) × (rest : List (List Word)) × (lines ≡ bounds_lines t.count t.key t.pairs pair ++ rest)
+    × ArePaired m case t pair × AreTold m case others rest
 
 -- the lines of a case: that it is certified, and what is told of its equilibria; or that it is not, with a cause
 pub data IsCaseText (m : Lists) (case : ℕ) : List (List Word) → Type 0 where
-  certified : (lines : List (List Word)) → AreTold m case (kinds m) lines
+  certified : (lines : List (List Word)) → AreTold m case (tellings m) lines
       → IsCaseText m case ((codes "case" ∷ (case_at m case).name ∷ codes "certified" ∷ []) ∷ lines)
   uncertified : (cause : Cause) (guess : List ℤ)
       → IsCaseText m case (uncertified_words m (case_at m case) cause ∷ candidate_lines m cause guess)
