@@ -1,6 +1,5 @@
 -- How many members the elements and the restraints of a model have.
 use Rattle.std.specs.Prelude.{ℕ, ◌+◌, List, [], ◌∷◌}
-use Rattle.model_types.specs.declared.records.Element.{Element}
 use Rattle.model_types.specs.declared.records.Shape.{Shape}
 use Rattle.model_types.specs.declared.records.Shape.TheVariants.{Straight}
 use Rattle.model_types.specs.declared.records.Restraint.{Restraint}

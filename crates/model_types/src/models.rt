@@ -139,7 +139,7 @@ impl Model {
     /// The material of that number.
     pub fn material(&self, id: MaterialId) -> &Material
         requires { id.0 < length self.now.materials }
-        ensures record { slice_get self.now.materials id.0 ≡ Some result.now }
+        ensures found { slice_get self.now.materials id.0 ≡ Some result.now }
         ensures kept { Keeps self.now (record_of.Material result.now) }
         ensures model { IsModel self.now }
     {
@@ -149,7 +149,7 @@ impl Model {
     /// The section of that number.
     pub fn section(&self, id: SectionId) -> &Section
         requires { id.0 < length self.now.sections }
-        ensures record { slice_get self.now.sections id.0 ≡ Some result.now }
+        ensures found { slice_get self.now.sections id.0 ≡ Some result.now }
         ensures kept { Keeps self.now (record_of.Section result.now) }
         ensures model { IsModel self.now }
     {
@@ -159,7 +159,7 @@ impl Model {
     /// The node of that number.
     pub fn node(&self, id: NodeId) -> &Node
         requires { id.0 < length self.now.nodes }
-        ensures record { slice_get self.now.nodes id.0 ≡ Some result.now }
+        ensures found { slice_get self.now.nodes id.0 ≡ Some result.now }
         ensures kept { Keeps self.now (record_of.Node result.now) }
         ensures model { IsModel self.now }
     {
@@ -169,7 +169,7 @@ impl Model {
     /// The element of that number.
     pub fn element(&self, id: ElementId) -> &Element
         requires { id.0 < length self.now.elements }
-        ensures record { slice_get self.now.elements id.0 ≡ Some result.now }
+        ensures found { slice_get self.now.elements id.0 ≡ Some result.now }
         ensures kept { Keeps self.now (record_of.Element result.now) }
         ensures model { IsModel self.now }
     {
@@ -179,7 +179,7 @@ impl Model {
     /// The restraint of that number.
     pub fn restraint(&self, id: RestraintId) -> &Restraint
         requires { id.0 < length self.now.restraints }
-        ensures record { slice_get self.now.restraints id.0 ≡ Some result.now }
+        ensures found { slice_get self.now.restraints id.0 ≡ Some result.now }
         ensures kept { Keeps self.now (record_of.Restraint result.now) }
         ensures model { IsModel self.now }
     {
@@ -189,7 +189,7 @@ impl Model {
     /// The load case of that number.
     pub fn case(&self, id: CaseId) -> &Case
         requires { id.0 < length self.now.cases }
-        ensures record { slice_get self.now.cases id.0 ≡ Some result.now }
+        ensures found { slice_get self.now.cases id.0 ≡ Some result.now }
         ensures kept { Keeps self.now (record_of.Case result.now) }
         ensures model { IsModel self.now }
     {

@@ -36,8 +36,8 @@ use Rattle.structure.specs.Anchors.{IsAnchor, kind_members, restraint_members}
 use Rattle.structure.specs.Elements.{element_at, members_of_element}
 use Rattle.structure.specs.Structure.{Members, element_members, model_members, with_element, then_members}
 use Rattle.structure.specs.Elements.{ElementsHaveEightMembers}
-use Rattle.report.specs.Fits.{AreAnswersOf, AreModest, FitsModel, IsModest, loads_count}
-use Rattle.report.specs.Report.{load_count}
+use Rattle.report.specs.Fits.{AreAnswersOf, AreModest, FitsModel, IsModest}
+use Rattle.model_types.specs.MemberCounts.{restraint_member_count, restraints_member_count}
 use Rattle.case_run.specs.Causes.{Plan, resting_laws}
 use Rattle.case_run.specs.Certified.{AreCaseAnswers, IsCaseAnswer, IsCertified, ShiftPasses, TellsBounds, bounds_of, element_member_count, shift_of}
 use Rattle.pipeflex_top.specs.Analysis.{text_order}
@@ -67,18 +67,18 @@ with_rest (Ok xs) rest members n count is =
 with_rest (Err number) rest members n count is = absurd (cc)
 
 -- a member for each load of an anchor
-anchor_has : (node : ℕ) (kind : RestraintKind) → IsAnchor kind → length (kind_members node kind) ≡ load_count kind
+anchor_has : (node : ℕ) (kind : RestraintKind) → IsAnchor kind → length (kind_members node kind) ≡ restraint_member_count kind
 anchor_has node (Anchor kt kr) is = refl
 anchor_has node (Linear dx dy dz k) is = absurd is
 anchor_has node (Twist dx dy dz k) is = absurd is
 
-anchors_have : (restraints : List Restraint) → AllByRecursion (λ r. IsAnchor r.kind) restraints → length (flat_map restraint_members restraints) ≡ loads_count restraints
+anchors_have : (restraints : List Restraint) → AllByRecursion (λ r. IsAnchor r.kind) restraints → length (flat_map restraint_members restraints) ≡ restraints_member_count restraints
 anchors_have [] are = refl
 anchors_have (r ∷ restraints) (here, rest) =
     omega (arith, length-append (restraint_members r) (flat_map restraint_members restraints), anchor_has r.node.0 r.kind here, anchors_have restraints rest)
 
 model_has : ElementsHaveEightMembers → (m : Lists) (members : List Member) → All (λ r. IsAnchor r.kind) m.restraints → model_members m ≡ Ok members
-    → length members ≡ 8 * length m.elements + loads_count m.restraints
+    → length members ≡ 8 * length m.elements + restraints_member_count m.restraints
 unfolding model_members
 model_has eight m members anchors is =
     with_rest (element_members m (length m.elements)) (flat_map restraint_members m.restraints) members (8 * length m.elements) (elements_have eight m (length m.elements)) is
@@ -112,7 +112,7 @@ told_modest bounds es same modest =
 certified_fits : PassedTestIsProof → BoundsAreLimited → ElementsHaveEightMembers →
     (m : Lists) (case : ℕ) (u loads : List Bounds) (states : List Bool) (e : Enclosure) → All (λ r. IsAnchor r.kind) m.restraints → IsCertified m case text_order e
     → TellsBounds (element_member_count m) e (Certified u loads states)
-    → (length u ≡ 6 * length m.nodes) × (length loads ≡ loads_count m.restraints) × AreModest u × AreModest loads
+    → (length u ≡ 6 * length m.nodes) × (length loads ≡ restraints_member_count m.restraints) × AreModest u × AreModest loads
 certified_fits passed_test limits eight m case u loads states e anchors certified (displacements, forces, none) =
     let b = certified.b in
     let structure = certified.model.structure in

@@ -12,8 +12,8 @@ use Rattle.model_types.specs.declared.answers.Cause.{Cause}
 use Rattle.model_types.specs.declared.records.Case.{Case}
 use Rattle.model_types.specs.declared.records.Node.{Node}
 use Rattle.model_types.specs.declared.records.Restraint.{Restraint}
-use Rattle.report.specs.Fits.{loads_count}
-use Rattle.report.specs.Report.{answer_lines, candidate_lines, case_lines, displacement_pair, guess_lines, guess_word, load_count, load_pair, node_lines, restraint_lines, uncertified_words}
+use Rattle.model_types.specs.MemberCounts.{restraint_member_count, restraints_member_count}
+use Rattle.report.specs.Report.{answer_lines, candidate_lines, case_lines, displacement_pair, guess_lines, guess_word, load_pair, node_lines, restraint_lines, uncertified_words}
 use Rattle.report.proofs.LineLemmas.{next_item, written}
 
 -- the bounds of one more node
@@ -40,7 +40,7 @@ guess_written whole out new name nodes i node u row rest inside is named row_is 
 
 -- the loads of one more restraint
 pub restraint_written : (whole out new name : List ℕ) (restraints : List Restraint) (i count : ℕ) (r : Restraint) (loads row rest : List Bounds) → i < length restraints → r ≡ get_or restraints i r → name ≡ r.name
-    → count ≡ load_count r.kind → row ≡ take count loads → rest ≡ drop count loads → out ++ flat_map line (restraint_lines (drop i restraints) loads) ≡ whole
+    → count ≡ restraint_member_count r.kind → row ≡ take count loads → rest ≡ drop count loads → out ++ flat_map line (restraint_lines (drop i restraints) loads) ≡ whole
     → new ≡ out ++ line (codes "restraint" ∷ name ∷ flat_map load_pair row) → new ++ flat_map line (restraint_lines (drop (i + 1) restraints) rest) ≡ whole
 restraint_written whole out new name restraints i count r loads row rest inside is named counted row_is rest_is so_far step =
     let parts : flat_map line (restraint_lines (r ∷ drop (i + 1) restraints) loads) ≡ line (codes "restraint" ∷ name ∷ flat_map load_pair row) ++ flat_map line (restraint_lines (drop (i + 1) restraints) rest) =
@@ -49,8 +49,8 @@ restraint_written whole out new name restraints i count r loads row rest inside 
     (ap (λ left. flat_map line (restraint_lines left loads)) (next_item restraints i r inside is) ∙ parts) so_far step
 
 -- how many loads the restraints from one on have
-pub loads_left : (restraints : List Restraint) (i : ℕ) (r : Restraint) → i < length restraints → r ≡ get_or restraints i r → loads_count (drop i restraints) ≡ load_count r.kind + loads_count (drop (i + 1) restraints)
-loads_left restraints i r inside is = ap loads_count (next_item restraints i r inside is)
+pub loads_left : (restraints : List Restraint) (i : ℕ) (r : Restraint) → i < length restraints → r ≡ get_or restraints i r → restraints_member_count (drop i restraints) ≡ restraint_member_count r.kind + restraints_member_count (drop (i + 1) restraints)
+loads_left restraints i r inside is = ap restraints_member_count (next_item restraints i r inside is)
 
 -- the lines of a certified case
 pub certified_written : (m : Lists) (c : Case) (answer : CaseAnswer) (u loads : List Bounds) (states : List Bool) (old begun said new name : List ℕ) (nodes : List Node) (restraints : List Restraint) (us ls : List Bounds) → answer ≡ Certified u loads states

@@ -8,8 +8,7 @@ use Rattle.model_types.specs.Lists.{Lists}
 use Rattle.model_types.specs.declared.records.Node.{Node}
 use Rattle.model_types.specs.declared.records.Case.{Case}
 use Rattle.model_types.specs.declared.records.Restraint.{Restraint}
-use Rattle.model_types.specs.declared.records.RestraintKind.{RestraintKind}
-use Rattle.model_types.specs.declared.records.RestraintKind.TheVariants as kinds
+use Rattle.model_types.specs.MemberCounts.{restraint_member_count}
 use Rattle.model_types.specs.declared.answers.Bounds.{Bounds}
 use Rattle.model_types.specs.declared.answers.Cause.{Cause}
 use Rattle.model_types.specs.declared.answers.Cause.TheVariants as causes
@@ -53,17 +52,11 @@ abbrev pub node_lines : List Node → List Bounds → List (List Word)
 node_lines [] u = []
 node_lines (node ∷ nodes) u = (codes "node" ∷ node.name ∷ flat_map displacement_pair (take 6 u)) ∷ node_lines nodes (drop 6 u)
 
--- how many members, and so loads, a restraint has
-abbrev pub load_count : RestraintKind → ℕ
-load_count (kinds.Anchor kt kr) = 6
-load_count (kinds.Linear dx dy dz k) = 1
-load_count (kinds.Twist dx dy dz k) = 1
-
 -- the lines of the restraints, each with the bounds of its loads
 abbrev pub restraint_lines : List Restraint → List Bounds → List (List Word)
 restraint_lines [] loads = []
 restraint_lines (r ∷ restraints) loads =
-    (codes "restraint" ∷ r.name ∷ flat_map load_pair (take (load_count r.kind) loads)) ∷ restraint_lines restraints (drop (load_count r.kind) loads)
+    (codes "restraint" ∷ r.name ∷ flat_map load_pair (take (restraint_member_count r.kind) loads)) ∷ restraint_lines restraints (drop (restraint_member_count r.kind) loads)
 
 -- ---- an uncertified case
 

@@ -1,6 +1,8 @@
 -- The members of a model's elements and restraints.
-use Rattle.std.proofs.Common.{◌≡◌, ℕ, zero, suc, ◌+◌, ◌^◌, ◌<◌, Bool, true, false, ◌&&◌, if◌then◌else◌, List, ◌++◌, length, get_or, All, inl, inr, sym, ap, subst, arith, add-one, ℤ, pos, ◌<ℤ◌, Result, Ok, Err}
+use Rattle.std.proofs.Common.{◌≡◌, ℕ, zero, suc, ◌+◌, ◌^◌, ◌<◌, Bool, true, false, ◌&&◌, if◌then◌else◌, List, ◌++◌, length, get_or, All, inl, inr, Some, slice_get, unwrap_or, ◌∙◌, sym, ap, subst, arith, add-one, ℤ, pos, ◌<ℤ◌, Result, Ok, Err}
 use Rattle.std.proofs.lemmas.Int.{ints}
+use Rattle.std.proofs.lemmas.Option.{unwrap_or-slice_get}
+use Rattle.std.specs.List.{slice_index_or}
 use Rattle.std.proofs.lemmas.Bool.{cases_eq}
 use Rattle.std.proofs.lemmas.List.{get_or_read}
 use Rattle.flex_interval.specs.Ends.{Ends}
@@ -56,6 +58,10 @@ sound : (e : Element) (nodes : ℕ) → e.from.0 < nodes → e.to.0 < nodes → 
 sound e nodes from to m is = record { first_node = rw is.first_node from; second_node = rw is.second_node to; low = is.low; high = higher m.kappa.hi is.high }
 
 -- ---- in a model
+
+-- the record that stands at a number
+pub at_number : {X : Type 0} (xs : List X) (i : ℕ) (x none : X) → slice_get xs i ≡ Some x → x ≡ slice_index_or xs i none
+at_number xs i x none e = ap (λ o. unwrap_or o none) (sym e) ∙ unwrap_or-slice_get xs i none
 
 -- the members of the element that stands at a place
 pub members-read : (m : Lists) (elements : List Element) (n : ℕ) (e : Element) (r : Result (List Member) Wide) → elements ≡ m.elements → n < length elements → e ≡ get_or elements n e → r ≡ members_of_element m e → members_of_element m (element_at m n) ≡ r

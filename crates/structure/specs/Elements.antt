@@ -5,7 +5,6 @@ use Rattle.flex_interval.specs.declared.fault.Wide.{Wide}
 use Rattle.member_set.specs.declared.members.Member.{Member}
 use Rattle.model_types.specs.Lists.{Lists}
 use Rattle.model_types.specs.declared.records.Element.{Element}
-use Rattle.model_types.specs.declared.records.Shape.{Shape}
 use Rattle.model_types.specs.declared.records.Shape.TheVariants.{Straight}
 use Rattle.model_types.specs.declared.records.Material.{Material}
 use Rattle.model_types.specs.declared.records.Node.{Node}
@@ -53,10 +52,6 @@ tube_of_element m e = tube_of (section_of m e) (material_of m (section_of m e))
 -- the way from its first node to its second
 abbrev pub span_of : Lists → Element → Span
 span_of m e = parts_of (way_of (from_of m e) (to_of m e))
-
--- how many members an element of a shape has
-abbrev pub member_count : Shape → ℕ
-member_count Straight = 8
 
 -- its members, unless they leave their limits
 abbrev pub members_of_element : Lists → Element → Result (List Member) Wide
