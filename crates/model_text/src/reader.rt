@@ -233,9 +233,7 @@ fn take_line(reading: &mut Reading, line: &[u8]) -> Result<(), AddFault>
 fn is_header(line: &[u8]) -> bool
     ensures { result ≡ line_of.is_header (words line.now) }
 {
-    count(line) == 2
-        && word(line, 0) == b"pipeflex".as_slice()
-        && word(line, 1) == b"1".as_slice()
+    count(line) == 2 && word(line, 0) == b"pipeflex".as_slice() && word(line, 1) == b"1".as_slice()
 }
 
 // Takes the record of a line that has words.
