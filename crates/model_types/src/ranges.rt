@@ -96,3 +96,6 @@ pub const LOAD: Range = Range {
     least: -1_000_000_000_000,
     most: 1_000_000_000_000,
 };
+
+/// The most that the ends of an element may lie apart, in micrometres.
+pub const LONGEST: u128 = 30_000_000;

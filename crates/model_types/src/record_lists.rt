@@ -9,7 +9,7 @@ ghost use Rattle.model_types.specs.Refusals as refused;
 use crate::NoMemory;
 use crate::ids::Space;
 use crate::models::Model;
-use crate::ranges::{COORDINATE, WALL};
+use crate::ranges::{COORDINATE, LONGEST, WALL};
 use crate::records::{
     Case, Check, Element, Force, Material, Move, Node, Pressure, Record, Restraint, Section, Tee,
     Temp,
@@ -291,9 +291,6 @@ fn square_length(nodes: &[Node], element: &Element) -> Option<u128>
     let to = nodes.get(element.to.0 as usize)?;
     Some(square_distance(from, to))
 }
-
-// The most that the ends of an element may lie apart, in micrometres.
-const LONGEST: u128 = 30_000_000;
 
 // Whether a wall fills the bore of a pipe.
 fn fills_bore(d: i64, t: i64) -> bool
