@@ -12,7 +12,8 @@ use Rattle.flex_interval.specs.Ends.{Ends}
 use Rattle.flex_interval.specs.Operations.{ends, small_of, multiple_of, ratio_of, add_of}
 use Rattle.member_set.specs.Interval.{Outcome}
 use Rattle.member_set.specs.Members.{nothing}
-use Rattle.model_types.specs.Ranges.{IsIn, load}
+use Rattle.model_types.specs.Ranges.{IsIn}
+use Rattle.model_types.specs.declared.ranges.TheConstants.{LOAD}
 use Rattle.load_vectors.specs.Totals.{units_of, most_units, IsOfForces}
 
 small_of-ok : (x : ℤ) → unsigned_abs x < 2 ^ 126 → small_of x ≡ Ok x
@@ -60,7 +61,7 @@ ratio_from : (p n : ℤ) → unsigned_abs (p *ℤ n) < 2 ^ 126 → ratio_of (end
 unfolding ratio_of multiple_of
 ratio_from p n small = rw (small_of-ok (p *ℤ n) small, min_self (p *ℤ n)) refl
 
-pub units_of-ok : (p : ℤ) → IsIn load p → (e : Ends) × (units_of p ≡ Ok e) × IsOfForces 1 e
+pub units_of-ok : (p : ℤ) → IsIn LOAD p → (e : Ends) × (units_of p ≡ Ok e) × IsOfForces 1 e
 units_of-ok p range =
     let up : pos 0 ≤ℤ pos (2 ^ 40) = omega (arith, ints) in
     let low : (neg_ℤ (pos most_units) *ℤ pos 1000) ≤ℤ (p *ℤ pos (2 ^ 40)) = le_mul (pos (2 ^ 40)) up range.least in

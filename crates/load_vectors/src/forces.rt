@@ -4,13 +4,14 @@ ghost use Rattle.flex_interval.specs.Operations.{add_of};
 ghost use Rattle.lists.specs.Results.{and_then};
 ghost use Rattle.member_set.specs.Interval.{limited_force};
 ghost use Rattle.member_set.specs.Members.{load_of};
-ghost use Rattle.model_types.specs.Ranges.{IsIn, load, ForceInForm};
+ghost use Rattle.model_types.specs.Ranges.{IsIn, ForceInForm};
 ghost use Rattle.load_vectors.specs.Loads.{AreLoads, EncloseLoads, HasForcesAlone, IsFirstWideLoad, case_at, part_of};
 ghost use Rattle.load_vectors.specs.Totals.{AreTotals, IsFirstOver, IsOfForces, in_units, units_of};
 
 use crate::fault::LoadFault;
 use flex_interval::{Iv, IvFault, add, point, ratio};
 use member_set::FORCE_LIMIT;
+use model_types::ranges::LOAD;
 use model_types::{CaseId, Force, Model};
 use std::alloc::Global;
 
@@ -52,7 +53,7 @@ fn part(force: &Force, freedom: usize) -> i64
     requires form { ForceInForm force.now }
     requires freedom { freedom < 6 }
     ensures value { result ≡ part_of force.now freedom }
-    ensures in_range { IsIn load result }
+    ensures in_range { IsIn LOAD result }
 {
     match freedom {
         0 => force.fx,
@@ -66,7 +67,7 @@ fn part(force: &Force, freedom: usize) -> i64
 
 /// A sum of forces' parts, and one part more of so many mN or mN m.
 fn plus(total: Iv, part: i64) -> Iv
-    requires part { IsIn load part }
+    requires part { IsIn LOAD part }
     requires room { IsOfForces 4000 total }
     ensures value { and_then (units_of part) (add_of total) ≡ Ok result }
     ensures within { (sum : ℤ) → Within total (in_units sum) → Within result (in_units (sum +ℤ part)) }
@@ -77,7 +78,7 @@ fn plus(total: Iv, part: i64) -> Iv
 
 /// A part of so many mN or mN m.
 fn units(part: i64) -> Iv
-    requires { IsIn load part }
+    requires { IsIn LOAD part }
     ensures value { units_of part ≡ Ok result }
     ensures within { Within result (in_units part) }
     ensures size { IsOfForces 1 result }

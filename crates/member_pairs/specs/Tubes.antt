@@ -2,8 +2,9 @@
 use Rattle.std.specs.Prelude.{◌^◌, ◌*◌, false, ℤ, pos, ◌+ℤ◌, ◌*ℤ◌, ◌≤ℤ◌}
 use Rattle.model_types.specs.declared.records.Section.{Section}
 use Rattle.model_types.specs.declared.records.Material.{Material}
-use Rattle.model_types.specs.Ranges.{IsIn, modulus, poisson_ratio}
+use Rattle.model_types.specs.Ranges.{IsIn}
 use Rattle.section_data.specs.Tube.{difference_of_squares, square_sum}
+use Rattle.model_types.specs.declared.ranges.TheConstants.{MODULUS, POISSON_RATIO}
 use Rattle.member_pairs.specs.declared.tube.Tube.{Tube}
 
 -- the tube of the full wall
@@ -12,8 +13,8 @@ tube_of s m = record { modulus = m.e; poisson_ratio = m.nu; square_difference = 
 
 -- a tube of a section and material in range
 pub record IsRoundTube (t : Tube) : Type 0 where
-  pub modulus : IsIn modulus t.modulus
-  pub poisson_ratio : IsIn poisson_ratio t.poisson_ratio
+  pub modulus : IsIn MODULUS t.modulus
+  pub poisson_ratio : IsIn POISSON_RATIO t.poisson_ratio
   pub difference_low : pos 0 ≤ℤ t.square_difference
   pub difference_high : t.square_difference ≤ℤ pos (4 * 10 ^ 12)
   pub sum_low : pos 0 ≤ℤ t.square_sum

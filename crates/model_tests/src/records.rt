@@ -1,7 +1,8 @@
 //! The base model, each refusal once, and a draft that is full.
 ghost use Rattle.text_words.specs.Names.{IsName};
-ghost use Rattle.model_types.specs.Ranges.{InForm, IsIn, coordinate, wall};
+ghost use Rattle.model_types.specs.Ranges.{InForm, IsIn};
 
+use model_types::ranges::{COORDINATE, WALL};
 use model_types::{
     AddFault, Bounds, Case, CaseId, Draft, Element, Force, Material, MaterialId, Model, Name, Node,
     NodeId, Record, Restraint, RestraintKind, Section, SectionId, Shape, Space,
@@ -30,7 +31,7 @@ fn steel(rt: &impl Abort) -> Record
 }
 
 fn section(rt: &impl Abort, material: u32, t: i64) -> Record
-    requires { IsIn wall t }
+    requires { IsIn WALL t }
     ensures { InForm result }
 {
     Record::Section(Section {
@@ -44,7 +45,7 @@ fn section(rt: &impl Abort, material: u32, t: i64) -> Record
 }
 
 fn node(rt: &impl Abort, text: &str, x: i64) -> Record
-    requires { IsIn coordinate x }
+    requires { IsIn COORDINATE x }
     ensures { InForm result }
 {
     Record::Node(Node {

@@ -1,7 +1,7 @@
 //! Whole reports, as they are worked out by hand from the mechanics of a pipe of one metre.
 ghost use Rattle.std.specs.Prelude.{◌≡◌, length, IsTrue, All};
 ghost use Rattle.report.specs.Fits.{AreModest, FitsModel, IsCauseIn, IsGuess, IsModest};
-ghost use Rattle.report.specs.Report.{loads_count};
+ghost use Rattle.model_types.specs.MemberCounts.{restraints_member_count};
 
 use crate::makers::model;
 use model_types::{
@@ -56,7 +56,7 @@ fn is_candidate(m: &Model, u: &[i128]) -> bool
 // The loads of a model with an anchor and no other restraint.
 #[tactic(auto, using(crate::proofs::LoadLemmas::loads_of_one))]
 fn are_loads(m: &Model, loads: &[Bounds]) -> bool
-    ensures { IsTrue result → length loads.now ≡ loads_count m.now.restraints }
+    ensures { IsTrue result → length loads.now ≡ restraints_member_count m.now.restraints }
 {
     let restraints = m.restraints();
     if restraints.len() != 1 || loads.len() != 6 {

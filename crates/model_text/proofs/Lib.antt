@@ -1,6 +1,6 @@
 mod Appended
+mod KindLines
 mod LineLemmas
-mod NodeLines
 mod PlainWords
 mod RoundTrip
 mod WordLemmas

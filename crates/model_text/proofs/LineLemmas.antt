@@ -9,7 +9,8 @@ use Rattle.model_types.specs.declared.faults.AddFault.TheVariants as line_fault
 use Rattle.model_types.specs.Lists.{Lists}
 use Rattle.text_words.specs.Fields.{lines}
 use Rattle.model_text.specs.Lines.{State, start, after_line, at_line}
-use Rattle.model_text.specs.Grammar.{Refusal, go_on, after_lines, whole, parsed, longest_text, IsFault, IsRefusedAt, too_long, by_line, no_header, no_node, StandsFor, RefusalsAreReasons, ModelsAreAccepted}
+use Rattle.model_text.specs.declared.reader.TheConstants.{LONGEST_TEXT}
+use Rattle.model_text.specs.Grammar.{Refusal, go_on, after_lines, whole, parsed, IsFault, IsRefusedAt, too_long, by_line, no_header, no_node, StandsFor, RefusalsAreReasons, ModelsAreAccepted}
 use Rattle.model_text.specs.declared.reader.TextFault.TheVariants as text_fault
 
 module _ (s : State) (n : ℕ) where
@@ -41,12 +42,12 @@ length-lines text = omega (arith, length-slice_split (λ b. b == 10) text, count
 -- a text that isn't too long is what its lines give
 pub parsed-lines : (text : List ℕ) → length text ≤ 4194304 → parsed text ≡ whole (after_lines start 1 (lines text))
 unfolding parsed
-parsed-lines text short = let test : nat_lt longest_text (length text) ≡ false = grind (arith, nat_tests) in ap (λ b. if b then Err (record { number = 1; line = 1 }) else whole (after_lines start 1 (lines text))) test
+parsed-lines text short = let test : nat_lt LONGEST_TEXT (length text) ≡ false = grind (arith, nat_tests) in ap (λ b. if b then Err (record { number = 1; line = 1 }) else whole (after_lines start 1 (lines text))) test
 
 -- a text that is too long is refused by 1
 pub parsed-long : (text : List ℕ) → 4194304 < length text → parsed text ≡ Err (record { number = 1; line = 1 })
 unfolding parsed
-parsed-long text long = let test : nat_lt longest_text (length text) ≡ true = grind (arith, nat_tests) in ap (λ b. if b then Err (record { number = 1; line = 1 }) else whole (after_lines start 1 (lines text))) test
+parsed-long text long = let test : nat_lt LONGEST_TEXT (length text) ≡ true = grind (arith, nat_tests) in ap (λ b. if b then Err (record { number = 1; line = 1 }) else whole (after_lines start 1 (lines text))) test
 
 -- a result has one value
 pub ok_same : {A E : Type 0} (r : Result A E) (x y : A) → r ≡ Ok x → r ≡ Ok y → x ≡ y
@@ -133,7 +134,7 @@ module _ (text : List ℕ) where
   reason_as : (refusal told : Refusal) → refusal ≡ told → IsRefusedAt text refusal.number refusal.line → IsRefusedAt text told.number told.line
   reason_as refusal told same reason = subst (λ r. IsRefusedAt text r.number r.line) same reason
 
-  module _ (short : length text ≤ longest_text) where
+  module _ (short : length text ≤ LONGEST_TEXT) where
     lacks : (made : State) (header none : Bool) (refusal : Refusal) → after_lines start 1 (lines text) ≡ Ok made → made.header ≡ header → (length made.draft.nodes == 0) ≡ none
         → whole (Ok made) ≡ Err refusal → IsRefusedAt text refusal.number refusal.line
     unfolding missing
@@ -186,11 +187,11 @@ module _ (text : List ℕ) where
   -- a refused text has a reason
   pub parsed-refused : (refusal : Refusal) → parsed text ≡ Err refusal → IsRefusedAt text refusal.number refusal.line
   unfolding missing
-  parsed-refused refusal e = by (nat_lt longest_text (length text)) refl
+  parsed-refused refusal e = by (nat_lt LONGEST_TEXT (length text)) refl
     where
-      by : (b : Bool) → nat_lt longest_text (length text) ≡ b → IsRefusedAt text refusal.number refusal.line
+      by : (b : Bool) → nat_lt LONGEST_TEXT (length text) ≡ b → IsRefusedAt text refusal.number refusal.line
       by true t =
-          let long : longest_text < length text = grind (arith, nat_tests) in
+          let long : LONGEST_TEXT < length text = grind (arith, nat_tests) in
           reason_as (missing 1) refusal (err_same (parsed text) (missing 1) refusal (parsed-long text long) e) (too_long long)
       by false t =
           let short : length text ≤ 4194304 = grind (arith, nat_tests) in
@@ -198,11 +199,11 @@ module _ (text : List ℕ) where
 
   -- a text that is read is short enough, and stands for what is read
   pub parsed-stands : (m : Lists) → parsed text ≡ Ok m → StandsFor text m
-  parsed-stands m e = by (nat_lt longest_text (length text)) refl
+  parsed-stands m e = by (nat_lt LONGEST_TEXT (length text)) refl
     where
-      by : (b : Bool) → nat_lt longest_text (length text) ≡ b → StandsFor text m
+      by : (b : Bool) → nat_lt LONGEST_TEXT (length text) ≡ b → StandsFor text m
       by true t =
-          let long : longest_text < length text = grind (arith, nat_tests) in
+          let long : LONGEST_TEXT < length text = grind (arith, nat_tests) in
           absurd (err_no_ok m (record { number = 1; line = 1 }) (sym (parsed-long text long) ∙ e))
       by false t =
           let short : length text ≤ 4194304 = grind (arith, nat_tests) in
@@ -241,11 +242,11 @@ module _ (P : Lists → Type 0) where
 
   -- an accepted text isn't too long
   pub accepted-short : (text : List ℕ) → IsOkAnd (parsed text) P → length text ≤ 4194304
-  accepted-short text h = by (nat_lt longest_text (length text)) refl
+  accepted-short text h = by (nat_lt LONGEST_TEXT (length text)) refl
     where
-      by : (b : Bool) → nat_lt longest_text (length text) ≡ b → length text ≤ 4194304
+      by : (b : Bool) → nat_lt LONGEST_TEXT (length text) ≡ b → length text ≤ 4194304
       by true t =
-          let long : longest_text < length text = grind (arith, nat_tests) in
+          let long : LONGEST_TEXT < length text = grind (arith, nat_tests) in
           absurd (subst (λ r. IsOkAnd r P) (parsed-long text long) h)
       by false t = grind (arith, nat_tests)
 

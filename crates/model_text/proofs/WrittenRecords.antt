@@ -1,5 +1,5 @@
 -- The line of a record that keeps the rules is read as that record.
-use Rattle.std.proofs.Common.{◌≡◌, ◌≢◌, ℕ, ◌<◌, ◌==◌, true, false, List, [], map, length, get_or, Ok, All, AllPairs, refl, ◌∙◌, arith}
+use Rattle.std.proofs.Common.{◌≡◌, ◌≢◌, ℕ, ◌<◌, ◌==◌, true, false, List, [], map, length, get_or, Some, Ok, All, AllPairs, refl, ap, ◌∙◌, arith}
 use Rattle.std.proofs.lemmas.Bool.{ne_eqb}
 use Rattle.std.proofs.lemmas.List.{length-map}
 use Rattle.std.proofs.lemmas.List.Elements.{All-map, All-weaker}
@@ -17,7 +17,9 @@ use Rattle.model_types.specs.Ranges.{KindInForm}
 use Rattle.model_types.specs.Kinds.{Kind, material_kind, section_kind, node_kind, element_kind, restraint_kind, case_kind, force_kind, Of, as_record, before}
 use Rattle.model_types.specs.Rules.{Keeps, IsModel}
 use Rattle.model_text.specs.Records.{record_of_words, record_under}
-use Rattle.model_text.specs.Rows.{Form, a_material, a_section, a_node, a_straight, an_anchor, a_linear, a_twist, a_case, a_force, first_word, row, Values, made, record_in, form_words, restraint_words, words_of}
+use Rattle.model_text.specs.Rows.{first_word, form_of, row, Values, made, record_in, form_words, restraint_words, words_of}
+use Rattle.model_text.specs.declared.records.Form.{Form}
+use Rattle.model_text.specs.declared.records.Form.TheVariants as form_named
 use Rattle.model_text.proofs.PlainWords.{is_plain, ArePlain, one_more}
 use Rattle.model_text.proofs.WrittenWords.{AreInRow, IsNamed, is_short_row, form_plain, form_read, plain_name, reads_name, found_name}
 
@@ -38,37 +40,37 @@ named name Keeps keeps xs n each distinct inside =
 record IsForm (f : Form) : Type 0 where
   word : is_plain (first_word f) ≡ true
   short : is_short_row (row f) ≡ true
-  under : (m : Lists) (ws : List (List ℕ)) → record_under m (first_word f) ws ≡ record_in m f ws
+  found : form_of (first_word f) ≡ Some f
 
 form : (f : Form) → IsForm f
-unfolding record_under
-form a_material = record { word = refl; short = refl; under = λ m ws. refl }
-form a_section = record { word = refl; short = refl; under = λ m ws. refl }
-form a_node = record { word = refl; short = refl; under = λ m ws. refl }
-form a_straight = record { word = refl; short = refl; under = λ m ws. refl }
-form an_anchor = record { word = refl; short = refl; under = λ m ws. refl }
-form a_linear = record { word = refl; short = refl; under = λ m ws. refl }
-form a_twist = record { word = refl; short = refl; under = λ m ws. refl }
-form a_case = record { word = refl; short = refl; under = λ m ws. refl }
-form a_force = record { word = refl; short = refl; under = λ m ws. refl }
+unfolding form_of
+form form_named.Material = record { word = refl; short = refl; found = refl }
+form form_named.Section = record { word = refl; short = refl; found = refl }
+form form_named.Node = record { word = refl; short = refl; found = refl }
+form form_named.Straight = record { word = refl; short = refl; found = refl }
+form form_named.Anchor = record { word = refl; short = refl; found = refl }
+form form_named.Linear = record { word = refl; short = refl; found = refl }
+form form_named.Twist = record { word = refl; short = refl; found = refl }
+form form_named.Case = record { word = refl; short = refl; found = refl }
+form form_named.Force = record { word = refl; short = refl; found = refl }
 
 module _ (m : Lists) where
   form_written : (f : Form) (vs : Values (row f)) → AreInRow m (row f) vs → IsWritten m (made f vs) (form_words m f vs)
   form_written f vs are = record {
     plain = one_more _ _ (record { passes = (form f).word }) (form_plain m f vs (form f).short are);
     some = ne_eqb (length (form_words m f vs)) 0 (λ none. omega arith);
-    made = (form f).under m (form_words m f vs) ∙ form_read m f vs (form f).short are;
+    made = ap (λ o. record_under m o (form_words m f vs)) (form f).found ∙ form_read m f vs (form f).short are;
   }
 
   straight_written : (r : Element) → IsName r.name → IsNamed (names_in m space_of.Node) r.from.0 → IsNamed (names_in m space_of.Node) r.to.0 → IsNamed (names_in m space_of.Section) r.section.0
       → (shape : Shape) → IsWritten m (record_of.Element (record r { shape = shape })) (words_of m (record_of.Element r))
-  straight_written r name from to section Straight = form_written a_straight (r.name, (r.from.0, (r.to.0, (r.section.0, tt)))) (name, (from, (to, (section, tt))))
+  straight_written r name from to section Straight = form_written form_named.Straight (r.name, (r.from.0, (r.to.0, (r.section.0, tt)))) (name, (from, (to, (section, tt))))
 
   restraint_written : (name : List ℕ) (node : ℕ) → IsName name → IsNamed (names_in m space_of.Node) node → (kind : RestraintKind) → KindInForm kind
       → IsWritten m (record_of.Restraint (record { name = name; node = record { 0 = node }; kind = kind })) (restraint_words m name node kind)
-  restraint_written name node is at (Anchor kt kr) kind = form_written an_anchor (name, (node, (kt, (kr, tt)))) (is, (at, (kind.0, (kind.1, tt))))
-  restraint_written name node is at (Linear x y z k) kind = form_written a_linear (name, (node, (record { x = x; y = y; z = z }, (k, tt)))) (is, (at, (kind.0, (kind.1, tt))))
-  restraint_written name node is at (Twist x y z k) kind = form_written a_twist (name, (node, (record { x = x; y = y; z = z }, (k, tt)))) (is, (at, (kind.0, (kind.1, tt))))
+  restraint_written name node is at (Anchor kt kr) kind = form_written form_named.Anchor (name, (node, (kt, (kr, tt)))) (is, (at, (kind.0, (kind.1, tt))))
+  restraint_written name node is at (Linear x y z k) kind = form_written form_named.Linear (name, (node, (record { x = x; y = y; z = z }, (k, tt)))) (is, (at, (kind.0, (kind.1, tt))))
+  restraint_written name node is at (Twist x y z k) kind = form_written form_named.Twist (name, (node, (record { x = x; y = y; z = z }, (k, tt)))) (is, (at, (kind.0, (kind.1, tt))))
 
 -- a record of a model is read from its words behind those before it
 module _ (m : Lists) (is : IsModel m) where
@@ -87,21 +89,21 @@ module _ (m : Lists) (is : IsModel m) where
   pub written : (k : Kind) (i : ℕ) (x : Of k) → Keeps (before m k i) (as_record k x) → IsWritten (before m k i) (as_record k x) (words_of (before m k i) (as_record k x))
   written material_kind i r k =
       let f = k.form in
-      form_written (before m material_kind i) a_material (r.name, (r.e, (r.nu, (r.alpha, (r.rho, tt))))) (f.name, (f.e, (f.nu, (f.alpha, (f.rho, tt)))))
+      form_written (before m material_kind i) form_named.Material (r.name, (r.e, (r.nu, (r.alpha, (r.rho, tt))))) (f.name, (f.e, (f.nu, (f.alpha, (f.rho, tt)))))
   written section_kind i r k =
       let f = k.form in
-      form_written (before m section_kind i) a_section (r.name, (r.material.0, (r.d, (r.t, (r.allowance, (r.extra, tt))))))
+      form_written (before m section_kind i) form_named.Section (r.name, (r.material.0, (r.d, (r.t, (r.allowance, (r.extra, tt))))))
       (f.name, (material_at r.material.0 k.known.0, (f.d, (f.t, (f.allowance, (f.extra, tt))))))
   written node_kind i r k =
       let f = k.form in
-      form_written (before m node_kind i) a_node (r.name, (r.x, (r.y, (r.z, tt)))) (f.name, (f.x, (f.y, (f.z, tt))))
+      form_written (before m node_kind i) form_named.Node (r.name, (r.x, (r.y, (r.z, tt)))) (f.name, (f.x, (f.y, (f.z, tt))))
   written element_kind i r k =
       straight_written (before m element_kind i) r k.form (node_at r.from.0 k.known.0) (node_at r.to.0 k.known.1.0) (section_at r.section.0 k.known.1.1.0) r.shape
   written restraint_kind i r k = restraint_written (before m restraint_kind i) r.name r.node.0 k.form.0 (node_at r.node.0 k.known.0) r.kind k.form.1
   written case_kind i r k =
       let f = k.form in
-      form_written (before m case_kind i) a_case (r.name, (r.gx, (r.gy, (r.gz, (r.hangers, (r.dt, (r.p, tt))))))) (f.name, (f.gx, (f.gy, (f.gz, (tt, (f.dt, (f.p, tt)))))))
+      form_written (before m case_kind i) form_named.Case (r.name, (r.gx, (r.gy, (r.gz, (r.hangers, (r.dt, (r.p, tt))))))) (f.name, (f.gx, (f.gy, (f.gz, (tt, (f.dt, (f.p, tt)))))))
   written force_kind i r k =
       let f = k.form in
-      form_written (before m force_kind i) a_force (r.case.0, (r.node.0, (r.fx, (r.fy, (r.fz, (r.mx, (r.my, (r.mz, tt))))))))
+      form_written (before m force_kind i) form_named.Force (r.case.0, (r.node.0, (r.fx, (r.fy, (r.fz, (r.mx, (r.my, (r.mz, tt))))))))
       (case_at r.case.0 k.known.0, (node_at r.node.0 k.known.1.0, (f.fx, (f.fy, (f.fz, (f.mx, (f.my, (f.mz, tt))))))))

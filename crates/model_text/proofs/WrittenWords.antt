@@ -18,9 +18,13 @@ use Rattle.text_words.specs.Numbers.{number_of}
 use Rattle.text_words.proofs.NumberLemmas.{own, number_of-IsNumber}
 use Rattle.model_types.specs.declared.records.Record.{Record}
 use Rattle.model_types.specs.Lists.{Lists, names_in}
-use Rattle.model_types.specs.Ranges.{Range, IsIn, IsStiffness, IsDirection, stiffness_range, direction_part, from_to}
+use Rattle.model_types.specs.Ranges.{IsIn, IsStiffness, IsDirection}
 use Rattle.model_text.specs.Fields.{◌>>=◌, name_at, is_in, in_range, number_in, stiffness_in, is_default, flag_at, is_zero, direction_at}
-use Rattle.model_text.specs.Rows.{Field, own_name, name_in, within, stiffness_or_default, flag, direction, Form, first_word, row, Value, Values, width, row_width, made, number_named, read_field, read_row, record_in, name_of, stiffness_word, flag_word, field_words, row_words, form_words}
+use Rattle.model_text.specs.Rows.{Field, own_name, name_in, within, stiffness_or_default, flag, direction, first_word, row, Value, Values, width, row_width, made, number_named, read_field, read_row, record_in, name_of, stiffness_word, flag_word, field_words, row_words, form_words}
+use Rattle.model_types.specs.declared.ranges.Range.{Range}
+use Rattle.model_types.specs.declared.ranges.TheConstants.{DIRECTION_PART, STIFFNESS}
+use Rattle.model_text.specs.declared.fields.TheConstants.{FLAG}
+use Rattle.model_text.specs.declared.records.Form.{Form}
 use Rattle.model_text.specs.Words.{word}
 use Rattle.model_text.specs.declared.fields.Direction.{Direction}
 use Rattle.model_text.proofs.PlainWords.{is_plain_byte, IsPlain, ArePlain, no_words, one_more}
@@ -110,34 +114,34 @@ module _ (range : Range) (n : ℤ) (short : is_short range ≡ true) (is : IsIn 
 -- a stiffness
 pub plain_stiffness : (k : Option ℤ) → IsStiffness k → IsPlain (stiffness_word k)
 plain_stiffness None is = record { passes = refl }
-plain_stiffness (Some k) is = plain_number_in stiffness_range k refl is
+plain_stiffness (Some k) is = plain_number_in STIFFNESS k refl is
 
 -- a number isn't the default
-default_is_none : (k : ℤ) → number_in stiffness_range (codes "-") ≡ Ok k → ⊥
+default_is_none : (k : ℤ) → number_in STIFFNESS (codes "-") ≡ Ok k → ⊥
 unfolding number_in number_of
 default_is_none k e = absurd (cc)
 
-no_default : (k : ℤ) → IsIn stiffness_range k → is_default (signed_decimal k) ≡ false
+no_default : (k : ℤ) → IsIn STIFFNESS k → is_default (signed_decimal k) ≡ false
 no_default k is = false_from_ne_true (is_default (signed_decimal k)) (λ same.
     let word : signed_decimal k ≡ codes "-" = (bytes_eq-Decides (signed_decimal k) (codes "-")).0 same in
-    let read = reads_number stiffness_range k refl is in
-    default_is_none k (sym (ap (number_in stiffness_range) word) ∙ read))
+    let read = reads_number STIFFNESS k refl is in
+    default_is_none k (sym (ap (number_in STIFFNESS) word) ∙ read))
 
 pub reads_stiffness : (k : Option ℤ) → IsStiffness k → stiffness_in (stiffness_word k) ≡ Ok k
 unfolding stiffness_in
 reads_stiffness None is = refl
-reads_stiffness (Some k) is = cond-false (is_default (signed_decimal k)) _ _ (no_default k is) ∙ ap (λ r. r >>= λ n. Ok (Some n)) (reads_number stiffness_range k refl is)
+reads_stiffness (Some k) is = cond-false (is_default (signed_decimal k)) _ _ (no_default k is) ∙ ap (λ r. r >>= λ n. Ok (Some n)) (reads_number STIFFNESS k refl is)
 
 -- 0 or 1
 pub plain_flag : (b : Bool) → IsPlain (flag_word b)
 plain_flag true = record { passes = refl }
 plain_flag false = record { passes = refl }
 
-digit_read : (n : ℕ) → n ≤ 1 → number_in (from_to 0 1) ((48 + n) ∷ []) ≡ Ok (pos n)
+digit_read : (n : ℕ) → n ≤ 1 → number_in FLAG ((48 + n) ∷ []) ≡ Ok (pos n)
 digit_read n small =
     let least : pos 0 ≤ℤ pos n = omega (arith, ints) in
     let most : pos n ≤ℤ pos 1 = omega (arith, ints) in
-    sym (ap (number_in (from_to 0 1)) (decimal_digit n (omega arith))) ∙ reads_number (from_to 0 1) (pos n) refl (record { least = least; most = most })
+    sym (ap (number_in FLAG) (decimal_digit n (omega arith))) ∙ reads_number FLAG (pos n) refl (record { least = least; most = most })
 
 pub reads_flag : (b : Bool) → flag_at (flag_word b) ≡ Ok b
 unfolding flag_at
@@ -171,9 +175,9 @@ reads_direction done rest d k at is =
     let x = signed_decimal d.x in
     let y = signed_decimal d.y in
     let z = signed_decimal d.z in
-    after_step _ d.x _ _ (ap (number_in direction_part) (word_at done x (y ∷ z ∷ rest) k at) ∙ reads_number direction_part d.x refl is.x_part)
-    (after_step _ d.y _ _ (ap (number_in direction_part) (word_behind done (x ∷ []) y (z ∷ rest) (k + 1) (omega arith)) ∙ reads_number direction_part d.y refl is.y_part)
-    (after_step _ d.z _ _ (ap (number_in direction_part) (word_behind done (x ∷ y ∷ []) z rest (k + 2) (omega arith)) ∙ reads_number direction_part d.z refl is.z_part)
+    after_step _ d.x _ _ (ap (number_in DIRECTION_PART) (word_at done x (y ∷ z ∷ rest) k at) ∙ reads_number DIRECTION_PART d.x refl is.x_part)
+    (after_step _ d.y _ _ (ap (number_in DIRECTION_PART) (word_behind done (x ∷ []) y (z ∷ rest) (k + 1) (omega arith)) ∙ reads_number DIRECTION_PART d.y refl is.y_part)
+    (after_step _ d.z _ _ (ap (number_in DIRECTION_PART) (word_behind done (x ∷ y ∷ []) z rest (k + 2) (omega arith)) ∙ reads_number DIRECTION_PART d.z refl is.z_part)
     (after_step _ tt _ _ (cond-false (is_zero d.x d.y d.z) (Err 7) (Ok tt) (not_all_zero d.x d.y d.z is)) refl)))
 
 -- the name at a place is plain, read as a name, and found there
@@ -225,8 +229,8 @@ module _ (m : Lists) where
   field_plain stiffness_or_default v rest short is plain = one_more _ _ (plain_stiffness v is) plain
   field_plain flag v rest short is plain = one_more _ _ (plain_flag v) plain
   field_plain direction v rest short is plain =
-      one_more _ _ (plain_number_in direction_part v.x refl is.x_part)
-      (one_more _ _ (plain_number_in direction_part v.y refl is.y_part) (one_more _ _ (plain_number_in direction_part v.z refl is.z_part) plain))
+      one_more _ _ (plain_number_in DIRECTION_PART v.x refl is.x_part)
+      (one_more _ _ (plain_number_in DIRECTION_PART v.y refl is.y_part) (one_more _ _ (plain_number_in DIRECTION_PART v.z refl is.z_part) plain))
 
   length-field : (f : Field) (v : Value f) → length (field_words m f v) ≡ width f
   length-field own_name v = refl

@@ -3,7 +3,9 @@ use Rattle.std.specs.Prelude.{ℕ, ◌+◌, ◌&&◌, Bool, ℤ, pos, int_le, Li
 use Rattle.std.specs.Ordering.{int_eq}
 use Rattle.std.specs.Str.{bytes_eq}
 use Rattle.text_words.specs.Names.{is_name}
-use Rattle.model_types.specs.Ranges.{Range, from_to, direction_part, stiffness_range}
+use Rattle.model_types.specs.declared.ranges.Range.{Range}
+use Rattle.model_types.specs.declared.ranges.TheConstants.{DIRECTION_PART, STIFFNESS}
+use Rattle.model_text.specs.declared.fields.TheConstants.{FLAG}
 use Rattle.text_words.specs.Numbers.{number_of}
 use Rattle.text_words.specs.declared.numbers.NumberFault.{NumberFault}
 use Rattle.text_words.specs.declared.numbers.NumberFault.TheVariants.{NotANumber, TooLong}
@@ -42,11 +44,11 @@ is_default w = bytes_eq w (codes "-")
 
 -- a stiffness, or the default
 unfoldable pub stiffness_in : List ℕ → Result (Option ℤ) ℕ
-stiffness_in w = if is_default w then Ok None else (number_in stiffness_range w >>= λ k. Ok (Some k))
+stiffness_in w = if is_default w then Ok None else (number_in STIFFNESS w >>= λ k. Ok (Some k))
 
 -- 0 or 1
 unfoldable pub flag_at : List ℕ → Result Bool ℕ
-flag_at w = number_in (from_to 0 1) w >>= λ n. Ok (int_eq n (pos 1))
+flag_at w = number_in FLAG w >>= λ n. Ok (int_eq n (pos 1))
 
 abbrev pub is_zero : ℤ → ℤ → ℤ → Bool
 is_zero x y z = int_eq x (pos 0) && int_eq y (pos 0) && int_eq z (pos 0)
@@ -54,8 +56,8 @@ is_zero x y z = int_eq x (pos 0) && int_eq y (pos 0) && int_eq z (pos 0)
 -- a direction, in three words from word k on: 7 where all its parts are 0
 unfoldable pub direction_at : List (List ℕ) → ℕ → Result Direction ℕ
 direction_at ws k = do
-  x ← number_in direction_part (word ws k)
-  y ← number_in direction_part (word ws (k + 1))
-  z ← number_in direction_part (word ws (k + 2))
+  x ← number_in DIRECTION_PART (word ws k)
+  y ← number_in DIRECTION_PART (word ws (k + 1))
+  z ← number_in DIRECTION_PART (word ws (k + 2))
   _ ← refuse_if (is_zero x y z) 7
   Ok (record { x = x; y = y; z = z })

@@ -1,12 +1,10 @@
 -- The model text: the lists that it stands for, or the number and line of its refusal.
 use Rattle.std.specs.Prelude.{◌≡◌, ◌≢◌, ◌↔◌, ℕ, ◌+◌, ◌<◌, ◌≤◌, ◌==◌, true, false, nat_lt, List, [], ◌∷◌, ◌++◌, length, Result, Ok, Err, if◌then◌else◌}
+use Rattle.model_types.specs.Kinds.{Kind, count}
 use Rattle.model_types.specs.Lists.{Lists}
 use Rattle.text_words.specs.Fields.{lines}
+use Rattle.model_text.specs.declared.reader.TheConstants.{LONGEST_TEXT}
 use Rattle.model_text.specs.Lines.{State, start, after_line}
-
--- a text has at most so many bytes
-abbrev pub longest_text : ℕ
-longest_text = 4194304
 
 -- a number that refuses the text, and the line to which it points
 pub record Refusal : Type 0 where
@@ -32,7 +30,7 @@ whole (Ok s) =
 
 -- the lists that a text stands for, or its first refusal
 unfoldable pub parsed : List ℕ → Result Lists Refusal
-parsed text = if nat_lt longest_text (length text) then Err (record { number = 1; line = 1 }) else whole (after_lines start 1 (lines text))
+parsed text = if nat_lt LONGEST_TEXT (length text) then Err (record { number = 1; line = 1 }) else whole (after_lines start 1 (lines text))
 
 -- a line of a text: the lines before it are accepted, and what they made
 pub record IsLine (text : List ℕ) (line : ℕ) (at : List ℕ) (read : State) : Type 0 where
@@ -51,14 +49,14 @@ pub record IsFault (text : List ℕ) (number line : ℕ) : Type 0 where
 
 -- all lines of a text are accepted, and made this
 pub record AreAccepted (text : List ℕ) (made : State) : Type 0 where
-  pub short : length text ≤ longest_text
+  pub short : length text ≤ LONGEST_TEXT
   pub accepted : after_lines start 1 (lines text) ≡ Ok made
 
 -- why a text is refused by a number at a line: it is too long; or a line is the first at fault; or there is no header, or no node
 -- below it. No text meets two of these
 pub data IsRefusedAt (text : List ℕ) : ℕ → ℕ → Type 0 where
-  too_long : longest_text < length text → IsRefusedAt text 1 1
-  by_line : (number line : ℕ) → length text ≤ longest_text → IsFault text number line → IsRefusedAt text number line
+  too_long : LONGEST_TEXT < length text → IsRefusedAt text 1 1
+  by_line : (number line : ℕ) → length text ≤ LONGEST_TEXT → IsFault text number line → IsRefusedAt text number line
   no_header : (made : State) → AreAccepted text made → made.header ≡ false → IsRefusedAt text 3 1
   no_node : (made : State) → AreAccepted text made → made.header ≡ true → made.draft.nodes ≡ [] → IsRefusedAt text 15 1
 
@@ -75,12 +73,12 @@ RefusalsAreReasons = (text : List ℕ) (number line : ℕ) → (parsed text ≡ 
 abbrev pub ModelsAreAccepted : Type 0
 ModelsAreAccepted = (text : List ℕ) (m : Lists) → (parsed text ≡ Ok m) ↔ StandsFor text m
 
--- the line that makes the node of that number
-pub record IsLineOfNode (text : List ℕ) (node line : ℕ) : Type 0 where
+-- the line that makes the record of that number of a kind
+pub record IsLineOf (text : List ℕ) (k : Kind) (number line : ℕ) : Type 0 where
   pub at : List ℕ
   pub read : State
   pub read_next : State
   pub is_line : IsLine text line at read
   pub next : after_line read at ≡ Ok read_next
-  pub not_before : length read.draft.nodes ≤ node
-  pub there : node < length read_next.draft.nodes
+  pub not_before : count read.draft k ≤ number
+  pub there : number < count read_next.draft k

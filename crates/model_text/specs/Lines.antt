@@ -8,10 +8,13 @@ use Rattle.model_types.specs.declared.records.Record.{Record}
 use Rattle.model_types.specs.declared.records.Record.TheVariants as record_of
 use Rattle.model_types.specs.declared.faults.AddFault.{AddFault}
 use Rattle.model_types.specs.declared.faults.AddFault.TheVariants as line_fault
+use Rattle.model_types.specs.Kinds.{Kind, place}
 use Rattle.model_types.specs.Lists.{Lists, no_records, added}
 use Rattle.model_types.specs.Refusals.{refusal}
 use Rattle.model_text.specs.Fields.{◌>>=◌}
 use Rattle.model_text.specs.Records.{record_of_words}
+use Rattle.model_text.specs.Rows.{form_of, kind_made}
+use Rattle.model_text.specs.declared.records.Form.{Form}
 use Rattle.model_text.specs.Words.{words, word, is_allowed}
 use Rattle.model_text.specs.declared.reader.TextFault.{TextFault}
 use Rattle.model_text.specs.declared.reader.TextFault.TheVariants as text_fault
@@ -32,7 +35,12 @@ is_at_rest c = int_eq c.gx (pos 0) && int_eq c.gy (pos 0) && int_eq c.gz (pos 0)
 -- a case with a load of its own, which isn't read yet
 abbrev pub is_loaded_case : Record → Bool
 is_loaded_case (record_of.Case c) = not (is_at_rest c)
-is_loaded_case _ = false
+is_loaded_case (record_of.Material _) = false
+is_loaded_case (record_of.Section _) = false
+is_loaded_case (record_of.Node _) = false
+is_loaded_case (record_of.Element _) = false
+is_loaded_case (record_of.Restraint _) = false
+is_loaded_case (record_of.Force _) = false
 
 -- the lists with a record, or the number that refuses it
 abbrev pub judged : Record → Option ℕ → Lists → Result Lists ℕ
@@ -61,6 +69,14 @@ after_words s ws =
 -- what has been read after a line, or the number that refuses the line
 abbrev pub after_line : State → List ℕ → Result State ℕ
 after_line s line = if list_all is_allowed line then after_words s (words line) else Err 2
+
+-- whether a line of that first word makes a record of a kind
+abbrev pub is_of_kind : Kind → Option Form → Bool
+is_of_kind k None = false
+is_of_kind k (Some f) = place (kind_made f) == place k
+
+abbrev pub makes : Kind → List ℕ → Bool
+makes k w = is_of_kind k (form_of w)
 
 -- a line's fault, as the text's
 abbrev pub at_line : AddFault → ℕ → TextFault

@@ -2,6 +2,7 @@
 use Rattle.std.specs.Prelude.{ℕ, ◌+◌, ◌==◌, not, Bool, ℤ, List, [], ◌∷◌, ◌++◌, length, Option, Some, None, Result, Ok, unwrap_or, if◌then◌else◌, codes}
 use Rattle.std.specs.Fmt.{signed_decimal}
 use Rattle.std.specs.List.{slice_index_or}
+use Rattle.std.specs.Str.{bytes_eq}
 use Rattle.model_types.specs.declared.ids.Space.{Space}
 use Rattle.model_types.specs.declared.ids.Space.TheVariants as space_of
 use Rattle.model_types.specs.declared.records.Shape.TheVariants.{Straight}
@@ -10,7 +11,11 @@ use Rattle.model_types.specs.declared.records.RestraintKind.TheVariants.{Anchor,
 use Rattle.model_types.specs.declared.records.Record.{Record}
 use Rattle.model_types.specs.declared.records.Record.TheVariants as record_of
 use Rattle.model_types.specs.Lists.{Lists, names_in, record_number}
-use Rattle.model_types.specs.Ranges.{Range, modulus, poisson_ratio, expansion, density, diameter, wall, wall_allowance, extra_weight, coordinate, acceleration, temperature_change, pressure, load}
+use Rattle.model_types.specs.declared.ranges.Range.{Range}
+use Rattle.model_types.specs.declared.ranges.TheConstants.{ACCELERATION, COORDINATE, DENSITY, DIAMETER, EXPANSION, EXTRA_WEIGHT, LOAD, MODULUS, POISSON_RATIO, PRESSURE, TEMPERATURE_CHANGE, WALL, WALL_ALLOWANCE}
+use Rattle.model_types.specs.Kinds.{Kind, material_kind, section_kind, node_kind, element_kind, restraint_kind, case_kind, force_kind}
+use Rattle.model_text.specs.declared.records.Form.{Form}
+use Rattle.model_text.specs.declared.records.Form.TheVariants as form
 use Rattle.model_text.specs.declared.fields.Direction.{Direction}
 use Rattle.model_text.specs.Fields.{◌>>=◌, refuse_if, name_at, number_in, stiffness_in, flag_at, direction_at}
 use Rattle.model_text.specs.Words.{word}
@@ -25,40 +30,53 @@ pub data Field : Type 0 where
   flag : Field
   direction : Field
 
--- the forms of records, each with its first word
-pub data Form : Type 0 where
-  a_material : Form
-  a_section : Form
-  a_node : Form
-  a_straight : Form
-  an_anchor : Form
-  a_linear : Form
-  a_twist : Form
-  a_case : Form
-  a_force : Form
-
+-- the first word of each form of record
 abbrev pub first_word : Form → List ℕ
-first_word a_material = codes "material"
-first_word a_section = codes "section"
-first_word a_node = codes "node"
-first_word a_straight = codes "straight"
-first_word an_anchor = codes "anchor"
-first_word a_linear = codes "linear"
-first_word a_twist = codes "twist"
-first_word a_case = codes "case"
-first_word a_force = codes "force"
+first_word form.Material = codes "material"
+first_word form.Section = codes "section"
+first_word form.Node = codes "node"
+first_word form.Straight = codes "straight"
+first_word form.Anchor = codes "anchor"
+first_word form.Linear = codes "linear"
+first_word form.Twist = codes "twist"
+first_word form.Case = codes "case"
+first_word form.Force = codes "force"
+
+abbrev pub forms : List Form
+forms = form.Material ∷ form.Section ∷ form.Node ∷ form.Straight ∷ form.Anchor ∷ form.Linear ∷ form.Twist ∷ form.Case ∷ form.Force ∷ []
+
+-- the form among these with that first word
+abbrev pub form_among : List ℕ → List Form → Option Form
+form_among w [] = None
+form_among w (f ∷ fs) = if bytes_eq w (first_word f) then Some f else form_among w fs
+
+-- the form with that first word
+unfoldable pub form_of : List ℕ → Option Form
+form_of w = form_among w forms
+
+-- the kind of the records of a form
+abbrev pub kind_made : Form → Kind
+kind_made form.Material = material_kind
+kind_made form.Section = section_kind
+kind_made form.Node = node_kind
+kind_made form.Straight = element_kind
+kind_made form.Anchor = restraint_kind
+kind_made form.Linear = restraint_kind
+kind_made form.Twist = restraint_kind
+kind_made form.Case = case_kind
+kind_made form.Force = force_kind
 
 -- the fields behind the first word
 abbrev pub row : Form → List Field
-row a_material = own_name ∷ within modulus ∷ within poisson_ratio ∷ within expansion ∷ within density ∷ []
-row a_section = own_name ∷ name_in space_of.Material ∷ within diameter ∷ within wall ∷ within wall_allowance ∷ within extra_weight ∷ []
-row a_node = own_name ∷ within coordinate ∷ within coordinate ∷ within coordinate ∷ []
-row a_straight = own_name ∷ name_in space_of.Node ∷ name_in space_of.Node ∷ name_in space_of.Section ∷ []
-row an_anchor = own_name ∷ name_in space_of.Node ∷ stiffness_or_default ∷ stiffness_or_default ∷ []
-row a_linear = own_name ∷ name_in space_of.Node ∷ direction ∷ stiffness_or_default ∷ []
-row a_twist = own_name ∷ name_in space_of.Node ∷ direction ∷ stiffness_or_default ∷ []
-row a_case = own_name ∷ within acceleration ∷ within acceleration ∷ within acceleration ∷ flag ∷ within temperature_change ∷ within pressure ∷ []
-row a_force = name_in space_of.Case ∷ name_in space_of.Node ∷ within load ∷ within load ∷ within load ∷ within load ∷ within load ∷ within load ∷ []
+row form.Material = own_name ∷ within MODULUS ∷ within POISSON_RATIO ∷ within EXPANSION ∷ within DENSITY ∷ []
+row form.Section = own_name ∷ name_in space_of.Material ∷ within DIAMETER ∷ within WALL ∷ within WALL_ALLOWANCE ∷ within EXTRA_WEIGHT ∷ []
+row form.Node = own_name ∷ within COORDINATE ∷ within COORDINATE ∷ within COORDINATE ∷ []
+row form.Straight = own_name ∷ name_in space_of.Node ∷ name_in space_of.Node ∷ name_in space_of.Section ∷ []
+row form.Anchor = own_name ∷ name_in space_of.Node ∷ stiffness_or_default ∷ stiffness_or_default ∷ []
+row form.Linear = own_name ∷ name_in space_of.Node ∷ direction ∷ stiffness_or_default ∷ []
+row form.Twist = own_name ∷ name_in space_of.Node ∷ direction ∷ stiffness_or_default ∷ []
+row form.Case = own_name ∷ within ACCELERATION ∷ within ACCELERATION ∷ within ACCELERATION ∷ flag ∷ within TEMPERATURE_CHANGE ∷ within PRESSURE ∷ []
+row form.Force = name_in space_of.Case ∷ name_in space_of.Node ∷ within LOAD ∷ within LOAD ∷ within LOAD ∷ within LOAD ∷ within LOAD ∷ within LOAD ∷ []
 
 -- what a field gives: a name, the number of the record named, a whole number, a stiffness, a flag, a direction
 abbrev pub Value : Field → Type 0
@@ -88,17 +106,17 @@ row_width (f ∷ fs) = width f + row_width fs
 
 -- the record of a row's values
 abbrev pub made : (f : Form) → Values (row f) → Record
-made a_material (name, (e, (nu, (alpha, (rho, _))))) = record_of.Material (record { name = name; e = e; nu = nu; alpha = alpha; rho = rho })
-made a_section (name, (material, (d, (t, (allowance, (extra, _)))))) =
+made form.Material (name, (e, (nu, (alpha, (rho, _))))) = record_of.Material (record { name = name; e = e; nu = nu; alpha = alpha; rho = rho })
+made form.Section (name, (material, (d, (t, (allowance, (extra, _)))))) =
     record_of.Section (record { name = name; material = record { 0 = material }; d = d; t = t; allowance = allowance; extra = extra })
-made a_node (name, (x, (y, (z, _)))) = record_of.Node (record { name = name; x = x; y = y; z = z })
-made a_straight (name, (from, (to, (section, _)))) =
+made form.Node (name, (x, (y, (z, _)))) = record_of.Node (record { name = name; x = x; y = y; z = z })
+made form.Straight (name, (from, (to, (section, _)))) =
     record_of.Element (record { name = name; from = record { 0 = from }; to = record { 0 = to }; section = record { 0 = section }; shape = Straight })
-made an_anchor (name, (node, (kt, (kr, _)))) = record_of.Restraint (record { name = name; node = record { 0 = node }; kind = Anchor kt kr })
-made a_linear (name, (node, (d, (k, _)))) = record_of.Restraint (record { name = name; node = record { 0 = node }; kind = Linear d.x d.y d.z k })
-made a_twist (name, (node, (d, (k, _)))) = record_of.Restraint (record { name = name; node = record { 0 = node }; kind = Twist d.x d.y d.z k })
-made a_case (name, (gx, (gy, (gz, (hangers, (dt, (p, _))))))) = record_of.Case (record { name = name; gx = gx; gy = gy; gz = gz; hangers = hangers; dt = dt; p = p })
-made a_force (case, (node, (fx, (fy, (fz, (mx, (my, (mz, _)))))))) =
+made form.Anchor (name, (node, (kt, (kr, _)))) = record_of.Restraint (record { name = name; node = record { 0 = node }; kind = Anchor kt kr })
+made form.Linear (name, (node, (d, (k, _)))) = record_of.Restraint (record { name = name; node = record { 0 = node }; kind = Linear d.x d.y d.z k })
+made form.Twist (name, (node, (d, (k, _)))) = record_of.Restraint (record { name = name; node = record { 0 = node }; kind = Twist d.x d.y d.z k })
+made form.Case (name, (gx, (gy, (gz, (hangers, (dt, (p, _))))))) = record_of.Case (record { name = name; gx = gx; gy = gy; gz = gz; hangers = hangers; dt = dt; p = p })
+made form.Force (case, (node, (fx, (fy, (fz, (mx, (my, (mz, _)))))))) =
     record_of.Force (record { case = record { 0 = case }; node = record { 0 = node }; fx = fx; fy = fy; fz = fz; mx = mx; my = my; mz = mz })
 
 -- ---- reading
@@ -161,16 +179,16 @@ form_words m f vs = first_word f ∷ row_words m (row f) vs
 
 -- those of a restraint, by its kind
 abbrev pub restraint_words : Lists → List ℕ → ℕ → RestraintKind → List (List ℕ)
-restraint_words m name node (Anchor kt kr) = form_words m an_anchor (name, (node, (kt, (kr, tt))))
-restraint_words m name node (Linear dx dy dz k) = form_words m a_linear (name, (node, (record { x = dx; y = dy; z = dz }, (k, tt))))
-restraint_words m name node (Twist dx dy dz k) = form_words m a_twist (name, (node, (record { x = dx; y = dy; z = dz }, (k, tt))))
+restraint_words m name node (Anchor kt kr) = form_words m form.Anchor (name, (node, (kt, (kr, tt))))
+restraint_words m name node (Linear dx dy dz k) = form_words m form.Linear (name, (node, (record { x = dx; y = dy; z = dz }, (k, tt))))
+restraint_words m name node (Twist dx dy dz k) = form_words m form.Twist (name, (node, (record { x = dx; y = dy; z = dz }, (k, tt))))
 
 -- those of a record
 abbrev pub words_of : Lists → Record → List (List ℕ)
-words_of m (record_of.Material r) = form_words m a_material (r.name, (r.e, (r.nu, (r.alpha, (r.rho, tt)))))
-words_of m (record_of.Section r) = form_words m a_section (r.name, (r.material.0, (r.d, (r.t, (r.allowance, (r.extra, tt))))))
-words_of m (record_of.Node r) = form_words m a_node (r.name, (r.x, (r.y, (r.z, tt))))
-words_of m (record_of.Element r) = form_words m a_straight (r.name, (r.from.0, (r.to.0, (r.section.0, tt))))
+words_of m (record_of.Material r) = form_words m form.Material (r.name, (r.e, (r.nu, (r.alpha, (r.rho, tt)))))
+words_of m (record_of.Section r) = form_words m form.Section (r.name, (r.material.0, (r.d, (r.t, (r.allowance, (r.extra, tt))))))
+words_of m (record_of.Node r) = form_words m form.Node (r.name, (r.x, (r.y, (r.z, tt))))
+words_of m (record_of.Element r) = form_words m form.Straight (r.name, (r.from.0, (r.to.0, (r.section.0, tt))))
 words_of m (record_of.Restraint r) = restraint_words m r.name r.node.0 r.kind
-words_of m (record_of.Case r) = form_words m a_case (r.name, (r.gx, (r.gy, (r.gz, (r.hangers, (r.dt, (r.p, tt)))))))
-words_of m (record_of.Force r) = form_words m a_force (r.case.0, (r.node.0, (r.fx, (r.fy, (r.fz, (r.mx, (r.my, (r.mz, tt))))))))
+words_of m (record_of.Case r) = form_words m form.Case (r.name, (r.gx, (r.gy, (r.gz, (r.hangers, (r.dt, (r.p, tt)))))))
+words_of m (record_of.Force r) = form_words m form.Force (r.case.0, (r.node.0, (r.fx, (r.fy, (r.fz, (r.mx, (r.my, (r.mz, tt))))))))

@@ -6,7 +6,8 @@ ghost use Rattle.model_text.specs.Fields as field;
 ghost use Rattle.model_text.specs.Words.{words};
 
 use crate::words::word;
-use model_types::Name;
+use model_types::ranges::{DIRECTION_PART, STIFFNESS};
+use model_types::{Name, Range};
 use text_words::{NumberFault, number};
 
 /// Refuses by a number where a test holds.
@@ -27,24 +28,24 @@ pub(crate) fn name_at(word: &[u8]) -> Result<Name, u8>
     }
 }
 
-/// A number from `least` to `most`: 6 where the word is no number, and 7 where it has over 18 digits or is out of the range.
+/// A number in a range: 6 where the word is no number, and 7 where it has over 18 digits or is out of the range.
 #[tactic(auto, unfolding(crate::specs::Fields::number_in))]
-pub(crate) fn number_in(word: &[u8], least: i64, most: i64) -> Result<i64, u8>
-    ensures value { result ≡ field.number_in (record { least = least; most = most }) word.now }
-    ensures range { IfOk result (IsIn (record { least = least; most = most })) }
+pub(crate) fn number_in(word: &[u8], range: Range) -> Result<i64, u8>
+    ensures value { result ≡ field.number_in range word.now }
+    ensures range { IfOk result (IsIn range) }
 {
     match number(word) {
-        Ok(n) => { if is_in(n, least, most) { Ok(n) } else { Err(7) } }
+        Ok(n) => { if is_in(n, range) { Ok(n) } else { Err(7) } }
         Err(NumberFault::NotANumber) => Err(6),
         Err(NumberFault::TooLong) => Err(7),
     }
 }
 
-fn is_in(n: i64, least: i64, most: i64) -> bool
-    ensures value { result ≡ field.is_in (record { least = least; most = most }) n }
-    ensures fact { IsTrue result ↔ IsIn (record { least = least; most = most }) n }
+fn is_in(n: i64, range: Range) -> bool
+    ensures value { result ≡ field.is_in range n }
+    ensures fact { IsTrue result ↔ IsIn range n }
 {
-    least <= n && n <= most
+    range.least <= n && n <= range.most
 }
 
 /// A stiffness, or `None` for the default.
@@ -56,16 +57,19 @@ pub(crate) fn stiffness_in(word: &[u8]) -> Result<Option<i64>, u8>
     if word == b"-".as_slice() {
         return Ok(None);
     }
-    let k = number_in(word, 1, 2_000_000_000_000)?;
+    let k = number_in(word, STIFFNESS)?;
     Ok(Some(k))
 }
+
+// 0 or 1.
+const FLAG: Range = Range { least: 0, most: 1 };
 
 /// Whether a word is 1 and not 0.
 #[tactic(auto, unfolding(crate::specs::Fields::flag_at))]
 pub(crate) fn flag_at(word: &[u8]) -> Result<bool, u8>
     ensures { result ≡ field.flag_at word.now }
 {
-    let n = number_in(word, 0, 1)?;
+    let n = number_in(word, FLAG)?;
     Ok(n == 1)
 }
 
@@ -83,9 +87,9 @@ pub(crate) fn direction_of(line: &[u8]) -> Result<Direction, u8>
     ensures value { result ≡ field.direction_at (words line.now) 3 }
     ensures form { IfOk result (λ d. IsDirection d.x d.y d.z) }
 {
-    let x = number_in(word(line, 3), -1_000_000, 1_000_000)?;
-    let y = number_in(word(line, 4), -1_000_000, 1_000_000)?;
-    let z = number_in(word(line, 5), -1_000_000, 1_000_000)?;
+    let x = number_in(word(line, 3), DIRECTION_PART)?;
+    let y = number_in(word(line, 4), DIRECTION_PART)?;
+    let z = number_in(word(line, 5), DIRECTION_PART)?;
     refuse_if(is_zero(x, y, z), 7)?;
     Ok(Direction { x, y, z })
 }

@@ -1,14 +1,15 @@
 //! The reader of the model text.
-ghost use Rattle.std.specs.Prelude.{◌≡◌, ◌<◌, IsOkAnd, ◌≤◌, ℕ, length, codes, Ok, Err, OnOk, IfOk};
-ghost use Rattle.std.specs.Str.{bytes_eq};
+ghost use Rattle.std.specs.Prelude.{◌≡◌, ◌<◌, IsOkAnd, ◌≤◌, ℕ, length, Ok, Err, OnOk, IfOk};
+ghost use Rattle.model_types.specs.Kinds.{node_kind, count, place};
 ghost use Rattle.model_types.specs.Ranges.{InForm};
 ghost use Rattle.model_types.specs.Rules.{IsModel};
 ghost use Rattle.model_text.specs.Lines as line_of;
 ghost use Rattle.model_text.specs.Grammar as grammar;
+ghost use Rattle.model_text.specs.Rows.{kind_made};
 ghost use Rattle.model_text.specs.Words.{words, word};
 ghost use Rattle.text_words.specs.Fields.{lines};
 
-use crate::records::record_of_words;
+use crate::records::{Form, form_of, record_of_words};
 use crate::words::{count, is_allowed, word};
 use model_types::{AddFault, Bounds, Case, Draft, Model, NodeId, Record};
 use std::alloc::{AllocError, Global};
@@ -37,7 +38,7 @@ impl From<AllocError> for TextFault {
 }
 
 /// The most bytes that a text may have.
-const LONGEST_TEXT: usize = 4_194_304;
+pub(crate) const LONGEST_TEXT: usize = 4_194_304;
 
 /// What has been read of a text: whether the header, and which records.
 #[derive(Drop)]
@@ -124,7 +125,7 @@ fn whole(reading: Reading) -> Result<Model, TextFault>
 
 // Takes the lines of a text, up to the first that is refused.
 fn take_lines(reading: &mut Reading, text: &[u8]) -> Result<(), TextFault>
-    requires { length text.now ≤ 4194304 }
+    requires { length text.now ≤ LONGEST_TEXT }
     ensures ok { OnOk result (grammar.after_lines reading.old 1 (lines text.now) ≡ Ok reading.new) }
     ensures refused { (number line : ℕ) → result ≡ Err (TextFault.Refused number line)
         → grammar.after_lines reading.old 1 (lines text.now) ≡ Err (record { number = number; line = line }) }
@@ -145,18 +146,26 @@ fn take_lines(reading: &mut Reading, text: &[u8]) -> Result<(), TextFault>
 /// The line, counted from 1, of the node of that number in an accepted text.
 pub fn node_line(text: &[u8], node: NodeId) -> u32
     requires { IsOkAnd (grammar.parsed text.now) (λ model. node.0 < length model.nodes) }
-    ensures { grammar.IsLineOfNode text.now node.0 result }
+    ensures { grammar.IsLineOf text.now node_kind node.0 result }
+{
+    record_line(text, Form::Node, node.0)
+}
+
+// The line of the record of that number, among those of the kind of a form.
+fn record_line(text: &[u8], form: Form, number: u32) -> u32
+    requires { IsOkAnd (grammar.parsed text.now) (λ model. number < count model (kind_made form)) }
+    ensures { grammar.IsLineOf text.now (kind_made form) number result }
 {
     let mut rest = Some(text);
     let mut line = 1;
-    let mut nodes = 0;
+    let mut made = 0;
     while let Some(left) = rest {
         let (front, behind) = cut_line(left);
-        if is_node(front) {
-            if nodes == node.0 {
+        if makes(front, form) {
+            if made == number {
                 return line;
             }
-            nodes += 1;
+            made += 1;
         }
         rest = behind;
         line += 1;
@@ -164,11 +173,29 @@ pub fn node_line(text: &[u8], node: NodeId) -> u32
     unreachable!()
 }
 
-// Whether a line's first word is `node`.
-fn is_node(line: &[u8]) -> bool
-    ensures { result ≡ bytes_eq (word (words line.now) 0) (codes "node") }
+// Whether a line's first word makes a record of the kind of a form.
+fn makes(line: &[u8], form: Form) -> bool
+    ensures { result ≡ line_of.makes (kind_made form) (word (words line.now) 0) }
 {
-    word(line, 0) == b"node".as_slice()
+    match form_of(word(line, 0)) {
+        Some(found) => place(found) == place(form),
+        None => false,
+    }
+}
+
+// The place of a form's kind in the canonical text.
+fn place(form: Form) -> u8
+    ensures { result ≡ place (kind_made form) }
+{
+    match form {
+        Form::Material => 0,
+        Form::Section => 1,
+        Form::Node => 2,
+        Form::Straight => 3,
+        Form::Anchor | Form::Linear | Form::Twist => 4,
+        Form::Case => 5,
+        Form::Force => 6,
+    }
 }
 
 // The fault of a line.
@@ -241,7 +268,8 @@ fn is_loaded_case(found: &Record) -> bool
 {
     match found {
         Record::Case(case) => !is_at_rest(case),
-        _ => false,
+        Record::Material(_) | Record::Section(_) | Record::Node(_) => false,
+        Record::Element(_) | Record::Restraint(_) | Record::Force(_) => false,
     }
 }
 

@@ -8,49 +8,92 @@ ghost use Rattle.model_text.specs.Words.{words};
 
 use crate::fields::{direction_of, flag_at, name_at, number_in, refuse_if, stiffness_in};
 use crate::words::{count, word};
+use model_types::ranges::{
+    ACCELERATION, COORDINATE, DENSITY, DIAMETER, EXPANSION, EXTRA_WEIGHT, LOAD, MODULUS,
+    POISSON_RATIO, PRESSURE, TEMPERATURE_CHANGE, WALL, WALL_ALLOWANCE,
+};
 use model_types::{
     Case, CaseId, Draft, Element, Force, Material, MaterialId, Node, NodeId, Record, Restraint,
     RestraintKind, Section, SectionId, Shape, Space,
 };
 
+/// The forms of records, each with a first word of its own.
+#[derive(Clone, Copy)]
+pub(crate) enum Form {
+    Material,
+    Section,
+    Node,
+    Straight,
+    Anchor,
+    Linear,
+    Twist,
+    Case,
+    Force,
+}
+
+/// The form with that first word.
+#[tactic(auto, unfolding(crate::specs::Rows::form_of))]
+pub(crate) fn form_of(word: &[u8]) -> Option<Form>
+    ensures { result ≡ row_of.form_of word.now }
+{
+    if word == b"material".as_slice() {
+        return Some(Form::Material);
+    }
+    if word == b"section".as_slice() {
+        return Some(Form::Section);
+    }
+    if word == b"node".as_slice() {
+        return Some(Form::Node);
+    }
+    if word == b"straight".as_slice() {
+        return Some(Form::Straight);
+    }
+    if word == b"anchor".as_slice() {
+        return Some(Form::Anchor);
+    }
+    if word == b"linear".as_slice() {
+        return Some(Form::Linear);
+    }
+    if word == b"twist".as_slice() {
+        return Some(Form::Twist);
+    }
+    if word == b"case".as_slice() {
+        return Some(Form::Case);
+    }
+    if word == b"force".as_slice() {
+        return Some(Form::Force);
+    }
+    None
+}
+
 /// The record of a line that has words, or the number that refuses it: 4, 5, 6, 7 or 17.
-#[tactic(auto, unfolding(crate::specs::Records::record_under))]
 pub(crate) fn record_of_words(draft: &Draft, line: &[u8]) -> Result<Record, u8>
     ensures value { result ≡ record_of.record_of_words draft.now (words line.now) }
     ensures form { IfOk result InForm }
 {
     let first = word(line, 0);
-    if first == b"material".as_slice() {
-        return material(line);
+    match form_of(first) {
+        Some(form) => record_in(draft, form, line),
+        None => Err(if is_unbuilt(first) { 17 } else { 4 }),
     }
-    if first == b"section".as_slice() {
-        return section(draft, line);
+}
+
+// The record of a line in that form.
+fn record_in(draft: &Draft, form: Form, line: &[u8]) -> Result<Record, u8>
+    ensures value { result ≡ row_of.record_in draft.now form (words line.now) }
+    ensures form { IfOk result InForm }
+{
+    match form {
+        Form::Material => material(line),
+        Form::Section => section(draft, line),
+        Form::Node => node(line),
+        Form::Straight => straight(draft, line),
+        Form::Anchor => anchor(draft, line),
+        Form::Linear => linear(draft, line),
+        Form::Twist => twist(draft, line),
+        Form::Case => case(line),
+        Form::Force => force(draft, line),
     }
-    if first == b"node".as_slice() {
-        return node(line);
-    }
-    if first == b"straight".as_slice() {
-        return straight(draft, line);
-    }
-    if first == b"anchor".as_slice() {
-        return anchor(draft, line);
-    }
-    if first == b"linear".as_slice() {
-        return linear(draft, line);
-    }
-    if first == b"twist".as_slice() {
-        return twist(draft, line);
-    }
-    if first == b"case".as_slice() {
-        return case(line);
-    }
-    if first == b"force".as_slice() {
-        return force(draft, line);
-    }
-    if is_unbuilt(first) {
-        return Err(17);
-    }
-    Err(4)
 }
 
 // Whether a word's record isn't read yet.
@@ -78,15 +121,15 @@ fn number_named(draft: &Draft, space: Space, word: &[u8]) -> Result<u32, u8>
 
 // material NAME E NU ALPHA RHO
 fn material(line: &[u8]) -> Result<Record, u8>
-    ensures value { (m : Lists) → result ≡ row_of.record_in m row_of.a_material (words line.now) }
+    ensures value { (m : Lists) → result ≡ row_of.record_in m Form.Material (words line.now) }
     ensures form { IfOk result InForm }
 {
     refuse_if(count(line) != 6, 5)?;
     let name = name_at(word(line, 1))?;
-    let e = number_in(word(line, 2), 1, 1_000_000)?;
-    let nu = number_in(word(line, 3), 0, 499)?;
-    let alpha = number_in(word(line, 4), 0, 100_000)?;
-    let rho = number_in(word(line, 5), 0, 30_000)?;
+    let e = number_in(word(line, 2), MODULUS)?;
+    let nu = number_in(word(line, 3), POISSON_RATIO)?;
+    let alpha = number_in(word(line, 4), EXPANSION)?;
+    let rho = number_in(word(line, 5), DENSITY)?;
     Ok(Record::Material(Material {
         name,
         e,
@@ -98,16 +141,16 @@ fn material(line: &[u8]) -> Result<Record, u8>
 
 // section NAME MATERIAL D T ALLOWANCE EXTRA
 fn section(draft: &Draft, line: &[u8]) -> Result<Record, u8>
-    ensures value { result ≡ row_of.record_in draft.now row_of.a_section (words line.now) }
+    ensures value { result ≡ row_of.record_in draft.now Form.Section (words line.now) }
     ensures form { IfOk result InForm }
 {
     refuse_if(count(line) != 7, 5)?;
     let name = name_at(word(line, 1))?;
     let material = MaterialId(number_named(draft, Space::Material, word(line, 2))?);
-    let d = number_in(word(line, 3), 1000, 2_000_000)?;
-    let t = number_in(word(line, 4), 100, 200_000)?;
-    let allowance = number_in(word(line, 5), 0, 200_000)?;
-    let extra = number_in(word(line, 6), 0, 100_000_000)?;
+    let d = number_in(word(line, 3), DIAMETER)?;
+    let t = number_in(word(line, 4), WALL)?;
+    let allowance = number_in(word(line, 5), WALL_ALLOWANCE)?;
+    let extra = number_in(word(line, 6), EXTRA_WEIGHT)?;
     Ok(Record::Section(Section {
         name,
         material,
@@ -120,20 +163,20 @@ fn section(draft: &Draft, line: &[u8]) -> Result<Record, u8>
 
 // node NAME X Y Z
 fn node(line: &[u8]) -> Result<Record, u8>
-    ensures value { (m : Lists) → result ≡ row_of.record_in m row_of.a_node (words line.now) }
+    ensures value { (m : Lists) → result ≡ row_of.record_in m Form.Node (words line.now) }
     ensures form { IfOk result InForm }
 {
     refuse_if(count(line) != 5, 5)?;
     let name = name_at(word(line, 1))?;
-    let x = number_in(word(line, 2), -10_000_000_000, 10_000_000_000)?;
-    let y = number_in(word(line, 3), -10_000_000_000, 10_000_000_000)?;
-    let z = number_in(word(line, 4), -10_000_000_000, 10_000_000_000)?;
+    let x = number_in(word(line, 2), COORDINATE)?;
+    let y = number_in(word(line, 3), COORDINATE)?;
+    let z = number_in(word(line, 4), COORDINATE)?;
     Ok(Record::Node(Node { name, x, y, z }))
 }
 
 // straight NAME FROM TO SECTION
 fn straight(draft: &Draft, line: &[u8]) -> Result<Record, u8>
-    ensures value { result ≡ row_of.record_in draft.now row_of.a_straight (words line.now) }
+    ensures value { result ≡ row_of.record_in draft.now Form.Straight (words line.now) }
     ensures form { IfOk result InForm }
 {
     refuse_if(count(line) != 5, 5)?;
@@ -152,7 +195,7 @@ fn straight(draft: &Draft, line: &[u8]) -> Result<Record, u8>
 
 // anchor NAME NODE KT KR
 fn anchor(draft: &Draft, line: &[u8]) -> Result<Record, u8>
-    ensures value { result ≡ row_of.record_in draft.now row_of.an_anchor (words line.now) }
+    ensures value { result ≡ row_of.record_in draft.now Form.Anchor (words line.now) }
     ensures form { IfOk result InForm }
 {
     refuse_if(count(line) != 5, 5)?;
@@ -166,7 +209,7 @@ fn anchor(draft: &Draft, line: &[u8]) -> Result<Record, u8>
 
 // linear NAME NODE DX DY DZ K
 fn linear(draft: &Draft, line: &[u8]) -> Result<Record, u8>
-    ensures value { result ≡ row_of.record_in draft.now row_of.a_linear (words line.now) }
+    ensures value { result ≡ row_of.record_in draft.now Form.Linear (words line.now) }
     ensures form { IfOk result InForm }
 {
     refuse_if(count(line) != 7, 5)?;
@@ -185,7 +228,7 @@ fn linear(draft: &Draft, line: &[u8]) -> Result<Record, u8>
 
 // twist NAME NODE DX DY DZ K
 fn twist(draft: &Draft, line: &[u8]) -> Result<Record, u8>
-    ensures value { result ≡ row_of.record_in draft.now row_of.a_twist (words line.now) }
+    ensures value { result ≡ row_of.record_in draft.now Form.Twist (words line.now) }
     ensures form { IfOk result InForm }
 {
     refuse_if(count(line) != 7, 5)?;
@@ -204,17 +247,17 @@ fn twist(draft: &Draft, line: &[u8]) -> Result<Record, u8>
 
 // case NAME GX GY GZ HANGERS DT P
 fn case(line: &[u8]) -> Result<Record, u8>
-    ensures value { (m : Lists) → result ≡ row_of.record_in m row_of.a_case (words line.now) }
+    ensures value { (m : Lists) → result ≡ row_of.record_in m Form.Case (words line.now) }
     ensures form { IfOk result InForm }
 {
     refuse_if(count(line) != 8, 5)?;
     let name = name_at(word(line, 1))?;
-    let gx = number_in(word(line, 2), -10_000, 10_000)?;
-    let gy = number_in(word(line, 3), -10_000, 10_000)?;
-    let gz = number_in(word(line, 4), -10_000, 10_000)?;
+    let gx = number_in(word(line, 2), ACCELERATION)?;
+    let gy = number_in(word(line, 3), ACCELERATION)?;
+    let gz = number_in(word(line, 4), ACCELERATION)?;
     let hangers = flag_at(word(line, 5))?;
-    let dt = number_in(word(line, 6), -1_000_000, 1_000_000)?;
-    let p = number_in(word(line, 7), 0, 100_000_000)?;
+    let dt = number_in(word(line, 6), TEMPERATURE_CHANGE)?;
+    let p = number_in(word(line, 7), PRESSURE)?;
     Ok(Record::Case(Case {
         name,
         gx,
@@ -228,18 +271,18 @@ fn case(line: &[u8]) -> Result<Record, u8>
 
 // force CASE NODE FX FY FZ MX MY MZ
 fn force(draft: &Draft, line: &[u8]) -> Result<Record, u8>
-    ensures value { result ≡ row_of.record_in draft.now row_of.a_force (words line.now) }
+    ensures value { result ≡ row_of.record_in draft.now Form.Force (words line.now) }
     ensures form { IfOk result InForm }
 {
     refuse_if(count(line) != 9, 5)?;
     let case = CaseId(number_named(draft, Space::Case, word(line, 1))?);
     let node = NodeId(number_named(draft, Space::Node, word(line, 2))?);
-    let fx = number_in(word(line, 3), -1_000_000_000_000, 1_000_000_000_000)?;
-    let fy = number_in(word(line, 4), -1_000_000_000_000, 1_000_000_000_000)?;
-    let fz = number_in(word(line, 5), -1_000_000_000_000, 1_000_000_000_000)?;
-    let mx = number_in(word(line, 6), -1_000_000_000_000, 1_000_000_000_000)?;
-    let my = number_in(word(line, 7), -1_000_000_000_000, 1_000_000_000_000)?;
-    let mz = number_in(word(line, 8), -1_000_000_000_000, 1_000_000_000_000)?;
+    let fx = number_in(word(line, 3), LOAD)?;
+    let fy = number_in(word(line, 4), LOAD)?;
+    let fz = number_in(word(line, 5), LOAD)?;
+    let mx = number_in(word(line, 6), LOAD)?;
+    let my = number_in(word(line, 7), LOAD)?;
+    let mz = number_in(word(line, 8), LOAD)?;
     Ok(Record::Force(Force {
         case,
         node,

@@ -10,6 +10,7 @@ ghost use Rattle.model_text.specs.Grammar.{parsed};
 ghost use Rattle.model_text.specs.RoundTrip.{AreCasesAtRest};
 ghost use Rattle.text_words.specs.Fields.{line};
 
+use crate::reader::LONGEST_TEXT;
 use itoa::Buffer;
 use model_types::{
     Case, CaseId, Element, Force, Material, MaterialId, Model, NoMemory, Node, NodeId, Restraint,
@@ -25,7 +26,7 @@ use text_words::push_line;
 /// aren't read yet.
 pub fn echo(alloc: Global, model: &Model) -> Result<Vec<u8>, NoMemory>
     ensures canonical { IfOk result (λ text. text.items ≡ text_of.canonical model.now) }
-    ensures reads_back { IfOk result (λ text. AreCasesAtRest model.now → length text.items ≤ 4194304 → parsed text.items ≡ Ok model.now) }
+    ensures reads_back { IfOk result (λ text. AreCasesAtRest model.now → length text.items ≤ LONGEST_TEXT → parsed text.items ≡ Ok model.now) }
 {
     // Each list of a model says that the model keeps the rules, and the law that its records can be read in order.
     let _nodes = model.nodes();

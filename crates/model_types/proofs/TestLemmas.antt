@@ -5,6 +5,7 @@ use Rattle.std.proofs.lemmas.Bool.Decides.{nat_tests}
 use Rattle.std.proofs.lemmas.Int.{ints}
 use Rattle.std.specs.Cmp.Lexicographic.{pointwise}
 use Rattle.std.specs.Option.{option_map_or}
+use Rattle.model_types.specs.declared.ranges.TheConstants.{LONGEST}
 use Rattle.model_types.specs.declared.records.Node.{Node}
 use Rattle.model_types.specs.declared.records.Element.{Element}
 use Rattle.model_types.specs.declared.records.Record.{Record}
@@ -13,7 +14,7 @@ use Rattle.model_types.specs.Kinds.{kind_of, count, is_keyed, key, keys, Ref, re
 use Rattle.model_types.specs.Lists.{Lists}
 use Rattle.model_types.specs.Ranges.{InForm}
 use Rattle.model_types.specs.Refusals.{Test, test, first_refusal, AllFail, lacks, has_no_length, is_too_long, is_too_many, square_between, square_length, own_tests, tests, refusal}
-use Rattle.model_types.specs.Rules.{KeepsOwn, MayBeNext, IsSpan, square_distance, longest}
+use Rattle.model_types.specs.Rules.{KeepsOwn, MayBeNext, IsSpan, square_distance}
 use Rattle.model_types.proofs.NameLists.{position-Contains}
 use Rattle.model_types.proofs.GrowthLemmas.{absent_key}
 
@@ -73,7 +74,7 @@ IsSpan-from_tests : (nodes : List Node) (e : Element) (a b : Node) → has_no_le
 IsSpan-from_tests nodes e a b apart near at_from at_to =
     let square : square_length nodes e ≡ Some (square_distance a b) = ap (λ o. square_between o (slice_get nodes e.to.0)) at_from ∙ ap (square_between (Some a)) at_to in
     let not_none : (square_distance a b == 0) ≡ false = sym (ap (λ o. option_map_or (λ n. n == 0) o false) square) ∙ apart in
-    let not_more : nat_lt (longest * longest) (square_distance a b) ≡ false = sym (ap (λ o. option_map_or (nat_lt (longest * longest)) o false) square) ∙ near in
+    let not_more : nat_lt (LONGEST * LONGEST) (square_distance a b) ≡ false = sym (ap (λ o. option_map_or (nat_lt (LONGEST * LONGEST)) o false) square) ∙ near in
     record { apart = positive _ not_none; near = ltb-false _ _ not_more }
 
 -- the tests of a kind decide its own rule
@@ -88,7 +89,7 @@ own-fail m (record_of.Element r) = (
   (λ fail a b at_from at_to. IsSpan-from_tests m.nodes r a b fail.0 fail.1.0 at_from at_to),
   (λ own. (
     span_test (λ n. n == 0) m.nodes r (λ a b at_from at_to. not_zero _ (own a b at_from at_to).apart),
-    (span_test (nat_lt (longest * longest)) m.nodes r (λ a b at_from at_to. le-ltb _ _ (own a b at_from at_to).near), tt),
+    (span_test (nat_lt (LONGEST * LONGEST)) m.nodes r (λ a b at_from at_to. le-ltb _ _ (own a b at_from at_to).near), tt),
   )),
 )
 own-fail m (record_of.Restraint r) = ((λ fail. tt), (λ own. tt))

@@ -1,5 +1,6 @@
 pub mod Kinds
 pub mod Lists
+pub mod MemberCounts
 pub mod Numbering
 pub mod Ranges
 pub mod Refusals

@@ -2,6 +2,7 @@
 use Rattle.std.specs.Prelude.{◌≡◌, ℕ, ◌*◌, ◌==◌, Bool, false, ◌||◌, ◌&&◌, nat_lt, nat_le, nat_eq, int_le, pos, ◌*ℤ◌, List, [], ◌∷◌, ◌++◌, position, slice_get, is_some, Option, Some, None, if◌then◌else◌}
 use Rattle.std.specs.Cmp.Lexicographic.{pointwise}
 use Rattle.std.specs.Option.{option_map_or}
+use Rattle.model_types.specs.declared.ranges.TheConstants.{LONGEST}
 use Rattle.model_types.specs.declared.records.Section.{Section}
 use Rattle.model_types.specs.declared.records.Node.{Node}
 use Rattle.model_types.specs.declared.records.Element.{Element}
@@ -9,7 +10,7 @@ use Rattle.model_types.specs.declared.records.Record.{Record}
 use Rattle.model_types.specs.declared.records.Record.TheVariants as record_of
 use Rattle.model_types.specs.Kinds.{Kind, Of, list, as_record, before, kind_of, count, most, is_keyed, key, keys, Ref, refs}
 use Rattle.model_types.specs.Lists.{Lists}
-use Rattle.model_types.specs.Rules.{KeepsRules, square_distance, longest}
+use Rattle.model_types.specs.Rules.{KeepsRules, square_distance}
 
 -- a test of a record, and the number that refuses the record where it holds
 pub record Test : Type 0 where
@@ -57,7 +58,7 @@ has_no_length nodes e = option_map_or (λ square. square == 0) (square_length no
 
 -- an element's nodes lie too far apart
 abbrev pub is_too_long : List Node → Element → Bool
-is_too_long nodes e = option_map_or (nat_lt (longest * longest)) (square_length nodes e) false
+is_too_long nodes e = option_map_or (nat_lt (LONGEST * LONGEST)) (square_length nodes e) false
 
 -- the tests of a record's own kind
 abbrev pub own_tests : Lists → Record → List Test

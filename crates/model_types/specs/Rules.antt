@@ -1,5 +1,6 @@
 -- The rules that every model keeps.
 use Rattle.std.specs.Prelude.{◌≡◌, ◌≢◌, ℕ, ℤ, ◌+◌, ◌*◌, ◌<◌, ◌≤◌, pos, ◌-ℤ◌, ◌*ℤ◌, ◌<ℤ◌, unsigned_abs, IsTrue, length, slice_get, Some, All, AllPairs, Contains}
+use Rattle.model_types.specs.declared.ranges.TheConstants.{LONGEST}
 use Rattle.model_types.specs.declared.records.Section.{Section}
 use Rattle.model_types.specs.declared.records.Node.{Node}
 use Rattle.model_types.specs.declared.records.Record.{Record}
@@ -16,14 +17,10 @@ square_difference a b = let d = unsigned_abs (b -ℤ a) in d * d
 abbrev pub square_distance : Node → Node → ℕ
 square_distance a b = square_difference a.x b.x + square_difference a.y b.y + square_difference a.z b.z
 
--- the most that the ends of an element may lie apart, in micrometres
-abbrev pub longest : ℕ
-longest = 30000000
-
 -- an element may run from one of the nodes to the other: they lie at two places, and not too far apart
 pub record IsSpan (from to : Node) : Type 0 where
   pub apart : 0 < square_distance from to
-  pub near : square_distance from to ≤ longest * longest
+  pub near : square_distance from to ≤ LONGEST * LONGEST
 
 -- a section: with a bore, and a wall that its allowance leaves something of
 pub record HasSoundWall (s : Section) : Type 0 where

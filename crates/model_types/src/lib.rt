@@ -9,6 +9,7 @@ pub mod drafts;
 pub mod faults;
 pub mod ids;
 pub mod models;
+pub mod ranges;
 mod record_lists;
 pub mod records;
 mod tables;
@@ -19,6 +20,7 @@ pub use faults::{AddFault, WholeFault};
 pub use ids::{CaseId, CheckId, ElementId, MaterialId, NodeId, RestraintId, SectionId, Space};
 pub use lists::Sequence;
 pub use models::{Model, records_follow};
+pub use ranges::Range;
 pub use records::{
     Case, Check, CheckKind, Element, Force, Material, Move, Node, Pressure, Record, Restraint,
     RestraintKind, Section, Shape, Tee, TeeKind, Temp,

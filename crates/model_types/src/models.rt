@@ -1,8 +1,10 @@
 //! The model of a piping system.
-ghost use Rattle.std.specs.Prelude.{◌≡◌};
-ghost use Rattle.model_types.specs.Rules.{IsModel};
+ghost use Rattle.std.specs.Prelude.{◌≡◌, ◌<◌, length, slice_get, Some};
+ghost use Rattle.model_types.specs.Rules.{IsModel, Keeps};
+ghost use Rattle.model_types.specs.declared.records.Record.TheVariants as record_of;
 ghost use Rattle.model_types.specs.Refusals.{RecordsFollow};
 
+use crate::ids::{CaseId, ElementId, MaterialId, NodeId, RestraintId, SectionId};
 use crate::records::{
     Case, Check, Element, Force, Material, Move, Node, Pressure, Restraint, Section, Tee, Temp,
 };
@@ -132,6 +134,66 @@ impl Model {
         ensures model { IsModel self.now }
     {
         self.checks.as_slice()
+    }
+
+    /// The material of that number.
+    pub fn material(&self, id: MaterialId) -> &Material
+        requires { id.0 < length self.now.materials }
+        ensures found { slice_get self.now.materials id.0 ≡ Some result.now }
+        ensures kept { Keeps self.now (record_of.Material result.now) }
+        ensures model { IsModel self.now }
+    {
+        &self.materials[id.0 as usize]
+    }
+
+    /// The section of that number.
+    pub fn section(&self, id: SectionId) -> &Section
+        requires { id.0 < length self.now.sections }
+        ensures found { slice_get self.now.sections id.0 ≡ Some result.now }
+        ensures kept { Keeps self.now (record_of.Section result.now) }
+        ensures model { IsModel self.now }
+    {
+        &self.sections[id.0 as usize]
+    }
+
+    /// The node of that number.
+    pub fn node(&self, id: NodeId) -> &Node
+        requires { id.0 < length self.now.nodes }
+        ensures found { slice_get self.now.nodes id.0 ≡ Some result.now }
+        ensures kept { Keeps self.now (record_of.Node result.now) }
+        ensures model { IsModel self.now }
+    {
+        &self.nodes[id.0 as usize]
+    }
+
+    /// The element of that number.
+    pub fn element(&self, id: ElementId) -> &Element
+        requires { id.0 < length self.now.elements }
+        ensures found { slice_get self.now.elements id.0 ≡ Some result.now }
+        ensures kept { Keeps self.now (record_of.Element result.now) }
+        ensures model { IsModel self.now }
+    {
+        &self.elements[id.0 as usize]
+    }
+
+    /// The restraint of that number.
+    pub fn restraint(&self, id: RestraintId) -> &Restraint
+        requires { id.0 < length self.now.restraints }
+        ensures found { slice_get self.now.restraints id.0 ≡ Some result.now }
+        ensures kept { Keeps self.now (record_of.Restraint result.now) }
+        ensures model { IsModel self.now }
+    {
+        &self.restraints[id.0 as usize]
+    }
+
+    /// The load case of that number.
+    pub fn case(&self, id: CaseId) -> &Case
+        requires { id.0 < length self.now.cases }
+        ensures found { slice_get self.now.cases id.0 ≡ Some result.now }
+        ensures kept { Keeps self.now (record_of.Case result.now) }
+        ensures model { IsModel self.now }
+    {
+        &self.cases[id.0 as usize]
     }
 }
 

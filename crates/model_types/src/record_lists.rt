@@ -2,13 +2,14 @@
 ghost use Rattle.std.specs.Prelude.{◌≡◌, ◌*◌, ◌≤◌, ◌^◌, pos, ◌*ℤ◌, int_le, length, [], ◌∷◌, false, OnOk, OnErr, IfOk, All};
 ghost use Rattle.model_types.specs.Lists.{names_in, record_number, no_records, added};
 ghost use Rattle.model_types.specs.Kinds.{kind_of, count, most, refs};
-ghost use Rattle.model_types.specs.Ranges.{InForm, NodeInForm, SectionInForm, IsIn, coordinate, wall};
+ghost use Rattle.model_types.specs.Ranges.{InForm, NodeInForm, SectionInForm, IsIn};
 ghost use Rattle.model_types.specs.Rules.{IsModel, square_distance as square_between, square_difference as square_from};
 ghost use Rattle.model_types.specs.Refusals as refused;
 
 use crate::NoMemory;
 use crate::ids::Space;
 use crate::models::Model;
+use crate::ranges::{COORDINATE, LONGEST, WALL};
 use crate::records::{
     Case, Check, Element, Force, Material, Move, Node, Pressure, Record, Restraint, Section, Tee,
     Temp,
@@ -291,12 +292,9 @@ fn square_length(nodes: &[Node], element: &Element) -> Option<u128>
     Some(square_distance(from, to))
 }
 
-// The most that the ends of an element may lie apart, in micrometres.
-const LONGEST: u128 = 30_000_000;
-
 // Whether a wall fills the bore of a pipe.
 fn fills_bore(d: i64, t: i64) -> bool
-    requires { IsIn wall t }
+    requires { IsIn WALL t }
     ensures { result ≡ int_le d (pos 2 *ℤ t) }
 {
     d <= 2 * t
@@ -315,8 +313,8 @@ fn square_distance(from: &Node, to: &Node) -> u128
 
 // The square of the difference of two coordinates.
 fn square_difference(from: i64, to: i64) -> u128
-    requires from_range { IsIn coordinate from }
-    requires to_range { IsIn coordinate to }
+    requires from_range { IsIn COORDINATE from }
+    requires to_range { IsIn COORDINATE to }
     ensures square { result ≡ square_from from to }
     ensures small { result ≤ (2 * 10 ^ 10) ^ 2 }
 {

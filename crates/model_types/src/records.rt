@@ -1,4 +1,7 @@
 //! The records of a model. Lengths are in micrometres, and `None` is a default that the text leaves as `-`.
+ghost use Rattle.std.specs.Prelude.{◌≡◌, ◌≤◌};
+ghost use Rattle.model_types.specs.MemberCounts.{restraint_member_count, shape_member_count};
+
 use crate::ids::{CaseId, CheckId, ElementId, MaterialId, NodeId, RestraintId, SectionId};
 use text_words::Name;
 
@@ -62,6 +65,18 @@ pub enum Shape {
     Straight,
 }
 
+impl Shape {
+    /// How many members an element of this shape has.
+    pub fn member_count(&self) -> usize
+        ensures value { result ≡ shape_member_count self.now }
+        ensures few { result ≤ 8 }
+    {
+        match self {
+            Shape::Straight => 8,
+        }
+    }
+}
+
 /// A branch connection: the stress intensification of the elements that end at a node.
 #[derive(Clone, Copy)]
 pub struct Tee {
@@ -113,6 +128,18 @@ pub enum RestraintKind {
         dz: i64,
         k: Option<i64>,
     },
+}
+
+impl RestraintKind {
+    /// How many members a restraint of this kind has, and so how many loads.
+    pub fn member_count(&self) -> usize
+        ensures { result ≡ restraint_member_count self.now }
+    {
+        match self {
+            RestraintKind::Anchor { .. } => 6,
+            RestraintKind::Linear { .. } | RestraintKind::Twist { .. } => 1,
+        }
+    }
 }
 
 /// A load case.

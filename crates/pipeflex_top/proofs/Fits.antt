@@ -34,10 +34,10 @@ use Rattle.certificate.specs.Bounds.{BoundsAreLimited, HasLimitedEnds}
 use Rattle.certificate.specs.Checker.{test_of}
 use Rattle.bound_laws.specs.Definiteness.{PassedTestIsProof}
 use Rattle.structure.specs.Anchors.{IsAnchor, kind_members, restraint_members}
-use Rattle.structure.specs.Elements.{element_at, members_of_element, ElementsHaveTheirMembers, element_member_count, member_count, member_count_below}
+use Rattle.structure.specs.Elements.{element_at, members_of_element, ElementsHaveTheirMembers, element_member_count, member_count_below}
 use Rattle.structure.specs.Structure.{Members, element_members, model_members, with_element, then_members}
 use Rattle.report.specs.Fits.{AreAnswersOf, AreModest, FitsModel, IsModest}
-use Rattle.report.specs.Report.{load_count, loads_count}
+use Rattle.model_types.specs.MemberCounts.{restraint_member_count, restraints_member_count, shape_member_count}
 use Rattle.case_run.specs.Causes.{Plan, resting_laws}
 use Rattle.case_run.specs.Certified.{AreCaseAnswers, IsCaseAnswer, IsCertified, ShiftPasses, TellsBounds, bounds_of, shift_of}
 use Rattle.pipeflex_top.specs.Analysis.{text_order}
@@ -58,7 +58,7 @@ with_more (Err number) n made members a b so_far count is = absurd (cc)
 elements_have : ElementsHaveTheirMembers → (m : Lists) (n : ℕ) (members : List Member) → element_members m n ≡ Ok members → length members ≡ member_count_below m n
 elements_have own m zero members is = let same : [] ≡ members = cc in ap length (sym same)
 elements_have own m (suc n) members is =
-    with_more (element_members m n) n (members_of_element m (element_at m n)) members (member_count_below m n) (member_count (element_at m n).shape) (elements_have own m n) (own m n) is
+    with_more (element_members m n) n (members_of_element m (element_at m n)) members (member_count_below m n) (shape_member_count (element_at m n).shape) (elements_have own m n) (own m n) is
 
 with_rest : (made : Members) (rest members : List Member) (n : ℕ) → ((xs : List Member) → made ≡ Ok xs → length xs ≡ n)
     → then_members made (λ xs. Ok (xs ++ rest)) ≡ Ok members → length members ≡ n + length rest
@@ -68,18 +68,18 @@ with_rest (Ok xs) rest members n count is =
 with_rest (Err number) rest members n count is = absurd (cc)
 
 -- a member for each load of an anchor
-anchor_has : (node : ℕ) (kind : RestraintKind) → IsAnchor kind → length (kind_members node kind) ≡ load_count kind
+anchor_has : (node : ℕ) (kind : RestraintKind) → IsAnchor kind → length (kind_members node kind) ≡ restraint_member_count kind
 anchor_has node (Anchor kt kr) is = refl
 anchor_has node (Linear dx dy dz k) is = absurd is
 anchor_has node (Twist dx dy dz k) is = absurd is
 
-anchors_have : (restraints : List Restraint) → AllByRecursion (λ r. IsAnchor r.kind) restraints → length (flat_map restraint_members restraints) ≡ loads_count restraints
+anchors_have : (restraints : List Restraint) → AllByRecursion (λ r. IsAnchor r.kind) restraints → length (flat_map restraint_members restraints) ≡ restraints_member_count restraints
 anchors_have [] are = refl
 anchors_have (r ∷ restraints) (here, rest) =
-    omega (arith, sum_by-cons (λ (x : Restraint). load_count x.kind) r restraints, length-append (restraint_members r) (flat_map restraint_members restraints), anchor_has r.node.0 r.kind here, anchors_have restraints rest)
+    omega (arith, sum_by-cons (λ (x : Restraint). restraint_member_count x.kind) r restraints, length-append (restraint_members r) (flat_map restraint_members restraints), anchor_has r.node.0 r.kind here, anchors_have restraints rest)
 
 model_has : ElementsHaveTheirMembers → (m : Lists) (members : List Member) → All (λ r. IsAnchor r.kind) m.restraints → model_members m ≡ Ok members
-    → length members ≡ element_member_count m + loads_count m.restraints
+    → length members ≡ element_member_count m + restraints_member_count m.restraints
 unfolding model_members
 model_has own m members anchors is =
     with_rest (element_members m (length m.elements)) (flat_map restraint_members m.restraints) members (element_member_count m) (elements_have own m (length m.elements)) is
@@ -113,7 +113,7 @@ told_modest bounds es same modest =
 certified_fits : PassedTestIsProof → BoundsAreLimited → ElementsHaveTheirMembers →
     (m : Lists) (case : ℕ) (u loads : List Bounds) (states : List Bool) (e : Enclosure) → All (λ r. IsAnchor r.kind) m.restraints → IsCertified m case text_order e
     → TellsBounds (element_member_count m) e (Certified u loads states)
-    → (length u ≡ 6 * length m.nodes) × (length loads ≡ loads_count m.restraints) × AreModest u × AreModest loads
+    → (length u ≡ 6 * length m.nodes) × (length loads ≡ restraints_member_count m.restraints) × AreModest u × AreModest loads
 certified_fits passed_test limits counts m case u loads states e anchors certified (displacements, forces, none) =
     let b = certified.b in
     let structure = certified.model.structure in

@@ -15,12 +15,13 @@ use Rattle.model_types.specs.declared.answers.CaseAnswer.{CaseAnswer}
 use Rattle.model_types.specs.declared.answers.CaseAnswer.TheVariants.{Certified, Uncertified}
 use Rattle.model_types.specs.declared.records.Case.{Case}
 use Rattle.model_types.specs.declared.records.Restraint.{Restraint}
-use Rattle.report.specs.Report.{Word, answer_lines, bounds_at, case_lines, end_lines, head_lines, load_count, loads_before, loads_count, loads_of, node_bounds, node_lines, report_of, restraint_bounds, restraint_lines}
+use Rattle.report.specs.Report.{Word, answer_lines, bounds_at, case_lines, end_lines, head_lines, loads_before, load_count_of, node_bounds, node_lines, report_of, restraint_bounds, restraint_lines}
 use Rattle.report.specs.Rounding.{PrintedHolds}
 use Rattle.structure.specs.Anchors.{HasAnchorsAlone}
 use Rattle.text_words.specs.Fields.{line}
 use Rattle.pipeflex_top.specs.Told.{ArePaired, IsCaseText, certified, uncertified, IsReportText, node_displacements, restraint_loads}
 use Rattle.pipeflex_top.proofs.Fits.{model_has}
+use Rattle.model_types.specs.MemberCounts.{restraint_member_count, restraints_member_count}
 
 -- ---- a certified case
 
@@ -34,11 +35,11 @@ nodes_paired holds m case u loads always = λ b case_loads r exact structure loa
     holds (pos (10 ^ 9)) (pos (2 ^ 56)) (omega arith) (omega arith) (bounds_at u (6 * n + f)) (fraction (exact (6 * n + f)) r.stiffness.denominator) (within.displacement (6 * n + f) inside)
 
 -- a load of a restraint is one of the loads of all
-load_inside : (restraints : List Restraint) (n f : ℕ) → n < length restraints → f < loads_of restraints n → loads_before restraints n + f < loads_count restraints
+load_inside : (restraints : List Restraint) (n f : ℕ) → n < length restraints → f < load_count_of restraints n → loads_before restraints n + f < restraints_member_count restraints
 load_inside [] n f inside few = absurd (omega (arith, inside))
 load_inside (r ∷ restraints) n f inside few =
-    let count = λ (x : Restraint). load_count x.kind in
-    let own : loads_of (r ∷ restraints) n ≡ count (get_or (r ∷ restraints) n r) = get_or-map count (r ∷ restraints) n r 0 inside in
+    let count = λ (x : Restraint). restraint_member_count x.kind in
+    let own : load_count_of (r ∷ restraints) n ≡ count (get_or (r ∷ restraints) n r) = get_or-map count (r ∷ restraints) n r 0 inside in
     omega (arith, own, few, sum_by_more_le count (r ∷ restraints) n r inside)
 
 restraints_paired : PrintedHolds → ElementsHaveTheirMembers → (m : Lists) (case : ℕ) (u loads : List Bounds) → HasAnchorsAlone m
@@ -46,7 +47,7 @@ restraints_paired : PrintedHolds → ElementsHaveTheirMembers → (m : Lists) (c
 restraints_paired holds counts m case u loads anchors always = λ b case_loads r exact structure loaded realised balanced n f restraint own.
     let within = always b case_loads r exact structure loaded realised balanced in
     let k = loads_before m.restraints n + f in
-    let among : k < loads_count m.restraints = load_inside m.restraints n f restraint own in
+    let among : k < restraints_member_count m.restraints = load_inside m.restraints n f restraint own in
     let members = model_has counts m b.members anchors structure.members in
     let inside : element_member_count m + k < r.stiffness.members = omega (arith, realised.all_members, members, among) in
     holds (pos 1000) (pos (2 ^ 40)) (omega arith) (omega arith) (bounds_at loads k) (force_fraction r.stiffness.denominator (force_in r exact (element_member_count m + k))) (within.load k inside)

@@ -11,7 +11,7 @@ use Rattle.member_set.specs.Realisation.{Realisation, force_in, fraction, force_
 use Rattle.model_types.specs.Lists.{Lists}
 use Rattle.model_types.specs.declared.answers.Bounds.{Bounds}
 use Rattle.model_types.specs.declared.answers.Cause.{Cause}
-use Rattle.report.specs.Report.{Word, bounds_lines, candidate_lines, end_lines, head_lines, loads_before, loads_of, node_key, restraint_key, uncertified_words}
+use Rattle.report.specs.Report.{Word, bounds_lines, candidate_lines, end_lines, head_lines, loads_before, load_count_of, node_key, restraint_key, uncertified_words}
 use Rattle.report.specs.Rounding.{ends_of_pair}
 use Rattle.text_words.specs.Fields.{line}
 
@@ -37,7 +37,7 @@ abbrev pub restraint_loads : Lists → Telling
 restraint_loads m = record {
   count = length m.restraints;
   key = restraint_key m.restraints;
-  pairs = loads_of m.restraints;
+  pairs = load_count_of m.restraints;
   number = λ r exact n f. scaled (force_fraction r.stiffness.denominator (force_in r exact (element_member_count m + (loads_before m.restraints n + f)))) (pos 1000) (pos (2 ^ 40));
 }
 

@@ -43,15 +43,7 @@ fn is_along_an_axis(model: &Model) -> bool
 {
     let elements = model.elements();
     let element = elements[0];
-    differ_in_one(node(model, element.from), node(model, element.to))
-}
-
-fn node(model: &Model, id: NodeId) -> &Node
-    requires { id.0 < length model.now.nodes }
-    ensures { result.now ≡ slice_index_or model.now.nodes id.0 no_node }
-{
-    let nodes = model.nodes();
-    &nodes[id.0 as usize]
+    differ_in_one(model.node(element.from), model.node(element.to))
 }
 
 fn differ_in_one(a: &Node, b: &Node) -> bool

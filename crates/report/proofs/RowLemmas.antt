@@ -15,7 +15,8 @@ use Rattle.model_types.specs.declared.answers.Cause.{Cause}
 use Rattle.model_types.specs.declared.records.Case.{Case}
 use Rattle.model_types.specs.declared.records.Node.{Node}
 use Rattle.model_types.specs.declared.records.Restraint.{Restraint}
-use Rattle.report.specs.Report.{answer_lines, bounds_at, bounds_line, bounds_words, candidate_lines, case_lines, guess_lines, guess_word, key_words, load_count, loads_before, loads_count, loads_of, node_bounds, node_key, node_lines, pair, printed, restraint_bounds, restraint_key, restraint_lines, uncertified_words}
+use Rattle.report.specs.Report.{answer_lines, bounds_at, bounds_line, bounds_words, candidate_lines, case_lines, guess_lines, guess_word, key_words, loads_before, load_count_of, node_bounds, node_key, node_lines, pair, printed, restraint_bounds, restraint_key, restraint_lines, uncertified_words}
+use Rattle.model_types.specs.MemberCounts.{restraint_member_count, restraints_member_count}
 use Rattle.report.proofs.LineLemmas.{next_item, written}
 
 -- one line more
@@ -67,22 +68,22 @@ guess_written whole out new name nodes i node u row rest inside is named row_is 
 
 -- the line of one more restraint
 pub restraint_written : (old out new name : List ℕ) (restraints : List Restraint) (i count : ℕ) (r : Restraint) (loads row : List Bounds) → i < length restraints → r ≡ get_or restraints i r → name ≡ r.name
-    → count ≡ load_count r.kind → row ≡ take count (drop (loads_before restraints i) loads) → loads_before restraints i + count ≤ length loads
-    → out ≡ old ++ flat_map line (listed i (bounds_line (restraint_key restraints) (loads_of restraints) (restraint_bounds restraints loads)))
+    → count ≡ restraint_member_count r.kind → row ≡ take count (drop (loads_before restraints i) loads) → loads_before restraints i + count ≤ length loads
+    → out ≡ old ++ flat_map line (listed i (bounds_line (restraint_key restraints) (load_count_of restraints) (restraint_bounds restraints loads)))
     → new ≡ out ++ line (codes "restraint" ∷ name ∷ flat_map (pair (pos 1000) (pos (2 ^ 40))) row)
-    → new ≡ old ++ flat_map line (listed (i + 1) (bounds_line (restraint_key restraints) (loads_of restraints) (restraint_bounds restraints loads)))
+    → new ≡ old ++ flat_map line (listed (i + 1) (bounds_line (restraint_key restraints) (load_count_of restraints) (restraint_bounds restraints loads)))
 restraint_written old out new name restraints i count r loads row inside is named counted row_is enough so_far step =
     let names = map (λ (x : Restraint). x.name) restraints in
     let own : name ≡ get_or names i [] = named ∙ ap (λ (x : Restraint). x.name) is ∙ sym (get_or-map (λ (x : Restraint). x.name) restraints i r [] inside) in
-    let many : loads_of restraints i ≡ count = get_or-map (λ (x : Restraint). load_count x.kind) restraints i r 0 inside ∙ ap (λ (x : Restraint). load_count x.kind) (sym is) ∙ sym counted in
-    line_more old out new (bounds_line (restraint_key restraints) (loads_of restraints) (restraint_bounds restraints loads)) i so_far
+    let many : load_count_of restraints i ≡ count = get_or-map (λ (x : Restraint). restraint_member_count x.kind) restraints i r 0 inside ∙ ap (λ (x : Restraint). restraint_member_count x.kind) (sym is) ∙ sym counted in
+    line_more old out new (bounds_line (restraint_key restraints) (load_count_of restraints) (restraint_bounds restraints loads)) i so_far
     (rw many (step ∙ ap (λ words. out ++ line words) (part_line (pos 1000) (pos (2 ^ 40)) (codes "restraint") name names i loads row (loads_before restraints i) count own row_is enough)))
 
 -- how many loads there are before the next restraint, and that they are among all
 pub loads_more : (restraints : List Restraint) (i : ℕ) (r : Restraint) → i < length restraints → r ≡ get_or restraints i r
-    → (loads_before restraints (i + 1) ≡ loads_before restraints i + load_count r.kind) × (loads_before restraints i + load_count r.kind ≤ loads_count restraints)
+    → (loads_before restraints (i + 1) ≡ loads_before restraints i + restraint_member_count r.kind) × (loads_before restraints i + restraint_member_count r.kind ≤ restraints_member_count restraints)
 loads_more restraints i r inside is =
-    let count = λ (x : Restraint). load_count x.kind in
+    let count = λ (x : Restraint). restraint_member_count x.kind in
     (rw is (sum_by_more count restraints i r inside), rw is (sum_by_more_le count restraints i r inside))
 
 -- the lines of a certified case

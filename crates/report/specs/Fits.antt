@@ -6,7 +6,7 @@ use Rattle.model_types.specs.declared.answers.Cause.{Cause}
 use Rattle.model_types.specs.declared.answers.Cause.TheVariants as causes
 use Rattle.model_types.specs.declared.answers.CaseAnswer.{CaseAnswer}
 use Rattle.model_types.specs.declared.answers.CaseAnswer.TheVariants.{Certified, Uncertified}
-use Rattle.report.specs.Report.{loads_count}
+use Rattle.model_types.specs.MemberCounts.{restraints_member_count}
 
 -- a number of an answer is below 2^90 in size
 abbrev pub IsModest : ℤ → Type 0
@@ -36,7 +36,7 @@ pub record IsGuess (m : Lists) (u : List ℤ) : Type 0 where
 -- the answer is one of a case of the model: a bound for each row and for each load of a restraint, or a cause
 abbrev pub FitsModel : Lists → CaseAnswer → Type 0
 FitsModel m (Certified u loads states) =
-    (length u ≡ 6 * length m.nodes) × (length loads ≡ loads_count m.restraints) × AreModest u × AreModest loads
+    (length u ≡ 6 * length m.nodes) × (length loads ≡ restraints_member_count m.restraints) × AreModest u × AreModest loads
 FitsModel m (Uncertified cause guess) = IsCauseIn m cause × ((length guess ≡ 0) ⊎ IsGuess m guess)
 
 -- one answer for each case

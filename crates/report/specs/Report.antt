@@ -9,8 +9,7 @@ use Rattle.model_types.specs.Lists.{Lists}
 use Rattle.model_types.specs.declared.records.Node.{Node}
 use Rattle.model_types.specs.declared.records.Case.{Case}
 use Rattle.model_types.specs.declared.records.Restraint.{Restraint}
-use Rattle.model_types.specs.declared.records.RestraintKind.{RestraintKind}
-use Rattle.model_types.specs.declared.records.RestraintKind.TheVariants as kinds
+use Rattle.model_types.specs.MemberCounts.{restraint_member_count, restraints_member_count}
 use Rattle.model_types.specs.declared.answers.Bounds.{Bounds}
 use Rattle.model_types.specs.declared.answers.Cause.{Cause}
 use Rattle.model_types.specs.declared.answers.Cause.TheVariants as causes
@@ -68,22 +67,12 @@ node_key nodes = key_words (codes "node") (map (λ r. r.name) nodes)
 abbrev pub node_lines : List Node → List Bounds → List (List Word)
 node_lines nodes u = bounds_lines (length nodes) (node_key nodes) (λ n. 6) (node_bounds u)
 
--- how many members, and so loads, a restraint has
-abbrev pub load_count : RestraintKind → ℕ
-load_count (kinds.Anchor kt kr) = 6
-load_count (kinds.Linear dx dy dz k) = 1
-load_count (kinds.Twist dx dy dz k) = 1
-
--- how many loads the restraints have together
-abbrev pub loads_count : List Restraint → ℕ
-loads_count restraints = sum_by (λ r. load_count r.kind) restraints
-
 -- how many loads restraint n has, and how many the restraints before it
-abbrev pub loads_of : List Restraint → ℕ → ℕ
-loads_of restraints n = slice_index_or (map (λ r. load_count r.kind) restraints) n 0
+abbrev pub load_count_of : List Restraint → ℕ → ℕ
+load_count_of restraints n = slice_index_or (map (λ r. restraint_member_count r.kind) restraints) n 0
 
 abbrev pub loads_before : List Restraint → ℕ → ℕ
-loads_before restraints n = loads_count (take n restraints)
+loads_before restraints n = restraints_member_count (take n restraints)
 
 -- the bounds of load f of restraint n, in the unit of the report
 abbrev pub restraint_bounds : List Restraint → List Bounds → ℕ → ℕ → Bounds
@@ -95,7 +84,7 @@ restraint_key restraints = key_words (codes "restraint") (map (λ r. r.name) res
 -- the lines of the restraints, each with the bounds of its loads
 abbrev pub restraint_lines : List Restraint → List Bounds → List (List Word)
 restraint_lines restraints loads =
-    bounds_lines (length restraints) (restraint_key restraints) (loads_of restraints) (restraint_bounds restraints loads)
+    bounds_lines (length restraints) (restraint_key restraints) (load_count_of restraints) (restraint_bounds restraints loads)
 
 -- ---- an uncertified case
 

@@ -68,21 +68,21 @@ fn node_name(m: &Model, node: NodeId) -> &[u8]
     requires { node.0 < length m.now.nodes }
     ensures { result.now ≡ node_name m.now node.0 }
 {
-    m.nodes()[node.0 as usize].name.bytes()
+    m.node(node).name.bytes()
 }
 
 fn element_name(m: &Model, element: ElementId) -> &[u8]
     requires { element.0 < length m.now.elements }
     ensures { result.now ≡ element_name m.now element.0 }
 {
-    m.elements()[element.0 as usize].name.bytes()
+    m.element(element).name.bytes()
 }
 
 fn restraint_name(m: &Model, restraint: RestraintId) -> &[u8]
     requires { restraint.0 < length m.now.restraints }
     ensures { result.now ≡ restraint_name m.now restraint.0 }
 {
-    m.restraints()[restraint.0 as usize].name.bytes()
+    m.restraint(restraint).name.bytes()
 }
 
 fn freedom_word(freedom: u32) -> &'static [u8]

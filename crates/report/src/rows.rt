@@ -2,7 +2,8 @@ ghost use Rattle.std.specs.Prelude.{◌≡◌, ◌*◌, ◌∷◌, ◌++◌, cod
 ghost use Rattle.std.specs.Io.{StartsWith};
 ghost use Rattle.std.specs.List.{flat_map};
 ghost use Rattle.report.specs.Fits.{AreModest, IsModest};
-ghost use Rattle.report.specs.Report.{guess_lines, guess_word, load_count, loads_count, node_lines, pair, restraint_lines};
+ghost use Rattle.report.specs.Report.{guess_lines, guess_word, node_lines, pair, restraint_lines};
+ghost use Rattle.model_types.specs.MemberCounts.{restraints_member_count};
 ghost use Rattle.report.specs.Rounding.{IsScale};
 ghost use Rattle.report.specs.Words.{spaced};
 ghost use Rattle.text_words.specs.Fields.{line};
@@ -45,14 +46,14 @@ pub(crate) fn push_restraints(
     restraints: &[Restraint],
     loads: &[Bounds],
 ) -> Result<(), NoMemory>
-    requires one_each { length loads.now ≡ loads_count restraints.now }
+    requires one_each { length loads.now ≡ restraints_member_count restraints.now }
     requires modest { AreModest loads.now }
     ensures written { OnOk result (out.new.items ≡ out.old.items ++ flat_map line (restraint_lines restraints.now loads.now)) }
     ensures kept { OnErr result (StartsWith out.new.items out.old.items) }
 {
     let mut rest = loads;
     for restraint in restraints {
-        let count = load_count(&restraint.kind);
+        let count = restraint.kind.member_count();
         let (own, others) = rest.split_at(count);
         push_row(
             out,
@@ -65,16 +66,6 @@ pub(crate) fn push_restraints(
         rest = others;
     }
     Ok(())
-}
-
-/// How many members a restraint has.
-pub(crate) fn load_count(kind: &RestraintKind) -> usize
-    ensures { result ≡ load_count kind.now }
-{
-    match kind {
-        RestraintKind::Anchor { .. } => 6,
-        RestraintKind::Linear { .. } | RestraintKind::Twist { .. } => 1,
-    }
 }
 
 /// Writes a line for each node: `guess`, its name and its six displacements, to the nearest.

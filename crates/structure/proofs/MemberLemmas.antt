@@ -1,6 +1,8 @@
 -- The members of a model's elements and restraints.
-use Rattle.std.proofs.Common.{◌≡◌, ℕ, zero, suc, ◌+◌, ◌^◌, ◌<◌, Bool, true, false, ◌&&◌, if◌then◌else◌, List, ◌++◌, length, get_or, All, inl, inr, refl, sym, ◌∙◌, ap, subst, arith, add-one, ℤ, pos, ◌<ℤ◌, Result, Ok, Err}
+use Rattle.std.proofs.Common.{◌≡◌, ℕ, zero, suc, ◌+◌, ◌^◌, ◌<◌, Bool, true, false, ◌&&◌, if◌then◌else◌, List, ◌++◌, length, get_or, All, inl, inr, refl, sym, ◌∙◌, ap, subst, arith, add-one, ℤ, pos, ◌<ℤ◌, Result, Ok, Err, Some, slice_get, unwrap_or}
 use Rattle.std.proofs.lemmas.Int.{ints}
+use Rattle.std.proofs.lemmas.Option.{unwrap_or-slice_get}
+use Rattle.std.specs.List.{slice_index_or}
 use Rattle.std.proofs.lemmas.Bool.{cases_eq}
 use Rattle.std.proofs.lemmas.List.{get_or_read}
 use Rattle.flex_interval.specs.Ends.{Ends}
@@ -25,9 +27,10 @@ use Rattle.pipe_element.specs.declared.shapes.Shapes.{Shapes}
 use Rattle.pipe_element.specs.declared.stiffness.Stiffness.{Stiffness}
 use Rattle.model_types.specs.declared.records.Shape.{Shape}
 use Rattle.model_types.specs.declared.records.Shape.TheVariants.{Straight}
-use Rattle.structure.specs.Elements.{member_count, members_of_element, element_at, no_element, from_of, to_of, section_of, material_of}
+use Rattle.structure.specs.Elements.{members_of_element, element_at, no_element, from_of, to_of, section_of, material_of}
 use Rattle.structure.specs.Sound.{IsSound}
 use Rattle.structure.specs.Structure.{element_members}
+use Rattle.model_types.specs.MemberCounts.{shape_member_count}
 
 -- ---- element by element
 
@@ -58,6 +61,10 @@ sound : (e : Element) (nodes : ℕ) → e.from.0 < nodes → e.to.0 < nodes → 
 sound e nodes from to m is = record { first_node = rw is.first_node from; second_node = rw is.second_node to; low = is.low; high = higher m.kappa.hi is.high }
 
 -- ---- in a model
+
+-- the record that stands at a number
+pub at_number : {X : Type 0} (xs : List X) (i : ℕ) (x none : X) → slice_get xs i ≡ Some x → x ≡ slice_index_or xs i none
+at_number xs i x none e = ap (λ o. unwrap_or o none) (sym e) ∙ unwrap_or-slice_get xs i none
 
 -- the members of the element that stands at a place
 pub members-read : (m : Lists) (elements : List Element) (n : ℕ) (e : Element) (r : Result (List Member) Wide) → elements ≡ m.elements → n < length elements → e ≡ get_or elements n e → r ≡ members_of_element m e → members_of_element m (element_at m n) ≡ r
@@ -93,10 +100,10 @@ straight-count e a b s m members is =
     let w = or_wide-ok (shapes_of way l.0) (limited e k.0) members k.1 in
     limited-count e k.0 w.0 members w.1
 
-shape-count : (s : Shape) → member_count s ≡ 8
+shape-count : (s : Shape) → shape_member_count s ≡ 8
 shape-count Straight = refl
 
-pub members-count : (m : Lists) (n : ℕ) (more : List Member) → members_of_element m (element_at m n) ≡ Ok more → length more ≡ member_count (element_at m n).shape
+pub members-count : (m : Lists) (n : ℕ) (more : List Member) → members_of_element m (element_at m n) ≡ Ok more → length more ≡ shape_member_count (element_at m n).shape
 members-count m n more is =
     let e = element_at m n in
     straight-count e (from_of m e) (to_of m e) (section_of m e) (material_of m (section_of m e)) more is ∙ sym (shape-count e.shape)

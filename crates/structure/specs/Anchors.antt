@@ -22,7 +22,8 @@ unit_along freedom = replicate freedom nothing ++ point_of (pos (2 ^ 56)) ∷ re
 abbrev pub anchor_member : ℕ → Option ℤ → ℕ → Member
 anchor_member node k freedom = record { n1 = node; n2 = node; kappa = point_of (anchor_stiffness k *ℤ pos (2 ^ 20)); w = unit_along freedom }
 
--- the members of a restraint of a node: those of an anchor hold the node's three translations and its three rotations
+-- the members of a restraint of a node that is an anchor: they hold the node's three translations and its three rotations. What another
+-- kind of restraint holds is not said here: it has none as an anchor
 abbrev pub kind_members : ℕ → RestraintKind → List Member
 kind_members node (Anchor kt kr) =
     anchor_member node kt 0 ∷ anchor_member node kt 1 ∷ anchor_member node kt 2 ∷

@@ -4,8 +4,8 @@ use Rattle.std.specs.List.{slice_index_or}
 use Rattle.flex_interval.specs.declared.fault.Wide.{Wide}
 use Rattle.member_set.specs.declared.members.Member.{Member}
 use Rattle.model_types.specs.Lists.{Lists}
+use Rattle.model_types.specs.MemberCounts.{shape_member_count}
 use Rattle.model_types.specs.declared.records.Element.{Element}
-use Rattle.model_types.specs.declared.records.Shape.{Shape}
 use Rattle.model_types.specs.declared.records.Shape.TheVariants.{Straight}
 use Rattle.model_types.specs.declared.records.Material.{Material}
 use Rattle.model_types.specs.declared.records.Node.{Node}
@@ -54,10 +54,6 @@ tube_of_element m e = tube_of (section_of m e) (material_of m (section_of m e))
 abbrev pub span_of : Lists → Element → Span
 span_of m e = parts_of (way_of (from_of m e) (to_of m e))
 
--- how many members an element of a shape has
-abbrev pub member_count : Shape → ℕ
-member_count Straight = 8
-
 -- its members, unless they leave their limits
 abbrev pub members_of_element : Lists → Element → Result (List Member) Wide
 members_of_element m e = straight_of e (from_of m e) (to_of m e) (section_of m e) (material_of m (section_of m e))
@@ -65,7 +61,7 @@ members_of_element m e = straight_of e (from_of m e) (to_of m e) (section_of m e
 -- how many members the first n elements have
 abbrev pub member_count_below : Lists → ℕ → ℕ
 member_count_below m zero = 0
-member_count_below m (suc n) = member_count_below m n + member_count (element_at m n).shape
+member_count_below m (suc n) = member_count_below m n + shape_member_count (element_at m n).shape
 
 -- how many members the elements have, before those of the restraints
 abbrev pub element_member_count : Lists → ℕ
@@ -73,4 +69,4 @@ element_member_count m = member_count_below m (length m.elements)
 
 -- an element has as many members as its shape says
 abbrev pub ElementsHaveTheirMembers : Type 0
-ElementsHaveTheirMembers = (m : Lists) (n : ℕ) (members : List Member) → members_of_element m (element_at m n) ≡ Ok members → length members ≡ member_count (element_at m n).shape
+ElementsHaveTheirMembers = (m : Lists) (n : ℕ) (members : List Member) → members_of_element m (element_at m n) ≡ Ok members → length members ≡ shape_member_count (element_at m n).shape

@@ -1,11 +1,9 @@
-ghost use Rattle.std.specs.Prelude.{◌≡◌, ◌*◌, ◌<◌, ◌≤◌, length, All, IfOk, Ok, Err};
-ghost use Rattle.std.specs.List.{slice_index_or};
-ghost use Rattle.model_types.specs.Ranges.{NodeInForm, MaterialInForm};
+ghost use Rattle.std.specs.Prelude.{◌≡◌, ◌*◌, ◌≤◌, length, All, IfOk, Ok, Err};
+ghost use Rattle.model_types.specs.MemberCounts.{shape_member_count};
 ghost use Rattle.model_types.specs.Rules.{Keeps};
 ghost use Rattle.model_types.specs.declared.records.Record.TheVariants as record_of;
-ghost use Rattle.section_data.specs.Tube.{IsTube};
 ghost use Rattle.member_pairs.specs.Pairs.{IsMemberOf};
-ghost use Rattle.structure.specs.Elements.{member_count, element_member_count, members_of_element, material_of, no_node, no_section};
+ghost use Rattle.structure.specs.Elements.{element_member_count, members_of_element};
 ghost use Rattle.structure.specs.Enclosure.{EnclosesElement, EachEncloses};
 ghost use Rattle.structure.specs.Sound.{IsSound};
 ghost use Rattle.structure.specs.Structure.{element_members as all_of};
@@ -14,7 +12,7 @@ use crate::fault::BuildFault;
 use flex_interval::Wide;
 use member_pairs::ElementMembers;
 use member_set::Member;
-use model_types::{Element, ElementId, Material, Model, Node, NodeId, Section, SectionId, Shape};
+use model_types::{Element, ElementId, Model};
 use pipe_element::straight;
 use std::alloc::Global;
 
@@ -22,45 +20,17 @@ use std::alloc::Global;
 pub fn element_members(model: &Model, element: &Element) -> Result<ElementMembers, Wide>
     requires { Keeps model.now (record_of.Element element.now) }
     ensures value { result ≡ members_of_element model.now element.now }
-    ensures count { IfOk result (λ members. length members ≡ member_count element.now.shape) }
+    ensures count { IfOk result (λ members. length members ≡ shape_member_count element.now.shape) }
     ensures few { IfOk result (λ members. length members ≤ 8) }
     ensures limits { IfOk result (λ members. All (IsMemberOf element.now) members) }
     ensures encloses { EnclosesElement model.now element.now }
 {
-    let from = node(model, element.from);
-    let to = node(model, element.to);
-    let section = section(model, element.section);
-    let material = material(model, section);
+    let from = model.node(element.from);
+    let to = model.node(element.to);
+    let section = model.section(element.section);
+    let material = model.material(section.material);
     let members = straight(element, from, to, section, material)?;
     Ok(ElementMembers::eight(members))
-}
-
-fn node(model: &Model, id: NodeId) -> &Node
-    requires { id.0 < length model.now.nodes }
-    ensures value { result.now ≡ slice_index_or model.now.nodes id.0 no_node }
-    ensures form { NodeInForm result.now }
-{
-    let nodes = model.nodes();
-    &nodes[id.0 as usize]
-}
-
-fn section(model: &Model, id: SectionId) -> &Section
-    requires { id.0 < length model.now.sections }
-    ensures value { result.now ≡ slice_index_or model.now.sections id.0 no_section }
-    ensures tube { IsTube result.now }
-    ensures material { result.now.material.0 < length model.now.materials }
-{
-    let sections = model.sections();
-    &sections[id.0 as usize]
-}
-
-fn material<'a>(model: &'a Model, section: &Section) -> &'a Material
-    requires { section.now.material.0 < length model.now.materials }
-    ensures value { result.now ≡ material_of model.now section.now }
-    ensures form { MaterialInForm result.now }
-{
-    let materials = model.materials();
-    &materials[section.material.0 as usize]
 }
 
 /// How many members the elements of a model have, before those of its restraints.
@@ -71,18 +41,9 @@ pub fn element_member_count(model: &Model) -> usize
     let mut count = 0;
     let elements = model.elements();
     for number in 0..elements.len() {
-        count += member_count(&elements[number].shape);
+        count += elements[number].shape.member_count();
     }
     count
-}
-
-fn member_count(shape: &Shape) -> usize
-    ensures value { result ≡ member_count shape.now }
-    ensures few { result ≤ 8 }
-{
-    match shape {
-        Shape::Straight => 8,
-    }
 }
 
 /// The members of a model's elements, in order, or the first element that leaves its limits.

@@ -1,5 +1,5 @@
 -- The decimal forms are just what is read as numbers.
-use Rattle.std.proofs.Common.{◌≡◌, ◌≢◌, ℕ, zero, suc, ◌+◌, ◌-◌, ◌*◌, ◌^◌, ◌<◌, ◌≤◌, nat_lt, Bool, true, false, not, cond, List, [], ◌∷◌, length, get_or, take, ℤ, pos, negsuc, neg_ℤ, Result, Ok, Err, IfOk, refl, sym, ap, ◌∙◌, subst, inl, inr, arith, rules}
+use Rattle.std.proofs.Common.{◌≡◌, ◌≢◌, ◌↔◌, ℕ, zero, suc, ◌+◌, ◌-◌, ◌*◌, ◌^◌, ◌<◌, ◌≤◌, nat_lt, Bool, true, false, not, cond, List, [], ◌∷◌, length, get_or, take, ℤ, pos, negsuc, neg_ℤ, Result, Ok, Err, IfOk, refl, sym, ap, ◌∙◌, subst, inl, inr, arith, rules}
 use Rattle.std.proofs.lemmas.Bool.{both_ways, cases_Bool, cases_eq, cond-true, cond-false, not-false, not_from_true, or_right, or_cases, and_parts, and_from, lt-ltb, le-ltb, ltb-true, ltb-false, not-true, eqb-true, eqb-false, ne_eqb, not_from_false}
 use Rattle.std.proofs.lemmas.Fmt.{decimal_digit, decimal_nonempty, length-decimal-le, first_decimal, digits_decimal, digits_value-decimal, decimal-digits_value}
 use Rattle.std.proofs.lemmas.Slice.Eq.{bytes_eq-Decides}
@@ -12,8 +12,8 @@ use Rattle.std.specs.Char.{is_ascii_digit, digit_value}
 use Rattle.std.specs.List.{list_all}
 use Rattle.std.specs.Str.Parse.{digits_value}
 use Rattle.text_words.specs.declared.numbers.NumberFault.{NumberFault}
-use Rattle.text_words.specs.declared.numbers.NumberFault.TheVariants.{TooLong}
-use Rattle.text_words.specs.Numbers.{IsNumber, has_sign, digits_part, is_plain_digits, has_number_form, signed_value, number_of}
+use Rattle.text_words.specs.declared.numbers.NumberFault.TheVariants.{NotANumber, TooLong}
+use Rattle.text_words.specs.Numbers.{IsNumber, IsLongNumber, has_sign, digits_part, is_plain_digits, has_number_form, signed_value, number_of}
 
 -- `list_all is_ascii_digit` tells the texts of digits
 pub own : IsNumeralModel (λ ds. list_all is_ascii_digit ds ≡ true) (digits_value 10)
@@ -156,3 +156,87 @@ number_of-IsNumber word (negsuc n) is =
     let short = length-decimal-le 18 (suc n) (omega arith) is.short (omega (arith, is.short)) in
     let value : signed_value (45 ∷ ds) ≡ negsuc n = ap (λ v. neg_ℤ (pos v)) (digits_value-decimal own (suc n) (omega (arith, is.short))) in
     rw is.form (read_plain (45 ∷ ds) (plain_test ds plain) short ∙ ap (λ z. Ok z) value)
+
+-- ---- numbers of over 18 digits
+
+abbrev ten_to : ℕ → ℕ
+ten_to zero = 1
+ten_to (suc i) = ten_to i * 10
+
+-- more than i digits without a leading zero represent at least 10^i
+front_large : (ds : List ℕ) (i : ℕ) → IsPlain ds → i < length ds → ten_to i ≤ digits_value 10 (take (i + 1) ds)
+front_large ds zero plain inside =
+    let digit = AllPass-from_list_all is_ascii_digit ds plain.each 0 0 inside in
+    let large : 48 < get_or ds 0 0 = grind (arith, nat_tests, plain.first) in
+    omega (arith, front_more ds 0 plain.each inside, large)
+front_large ds (suc i) plain inside =
+    let more = front_more ds (suc i) plain.each inside in
+    let less = front_large ds i plain (omega (arith, inside)) in
+    let place : i + 1 ≡ suc i = omega arith in
+    let before : ten_to i ≤ digits_value 10 (take (suc i) ds) = subst (λ k. ten_to i ≤ digits_value 10 (take k ds)) place less in
+    omega (arith, more, before)
+
+value_large : (ds : List ℕ) → IsPlain ds → 18 < length ds → 10 ^ 18 ≤ digits_value 10 ds
+value_large ds plain long = omega (arith, front_large ds 18 plain long, digits_value-take-le 10 ds 19 (omega (arith, long)))
+
+length_large : (ds : List ℕ) → IsPlain ds → 10 ^ 18 ≤ digits_value 10 ds → nat_lt 18 (length ds) ≡ true
+length_large ds plain large = by (nat_lt 18 (length ds)) refl
+  where
+    by : (b : Bool) → nat_lt 18 (length ds) ≡ b → nat_lt 18 (length ds) ≡ true
+    by true e = e
+    by false e = absurd (omega (arith, large, value_small ds plain (ltb-false _ _ e)))
+
+long_word : (word : List ℕ) → is_plain_digits (digits_part word) ≡ true → 18 < length (digits_part word) → (n : ℤ) × IsLongNumber word n
+long_word word plain long = by (has_sign word) (digits_value 10 (digits_part word)) refl refl
+  where
+    large : 10 ^ 18 ≤ digits_value 10 (digits_part word)
+    large = value_large (digits_part word) (plain_parts _ plain) long
+    by : (b : Bool) (v : ℕ) → has_sign word ≡ b → digits_value 10 (digits_part word) ≡ v → (n : ℤ) × IsLongNumber word n
+    by true zero s e = absurd (omega (arith, large, e))
+    by true (suc k) s e = (negsuc k, record { digits = digits_part word; plain = plain; value = e; form = signed_parts word s; long = omega (arith, large, e) })
+    by false v s e = (pos v, record { digits = digits_part word; plain = plain; value = e; form = sym (cond-false (has_sign word) _ _ s); long = omega (arith, large, e) })
+
+faults_differ : ◌≡◌ {A = Result ℤ NumberFault} (Err NotANumber) (Err TooLong) → ⊥
+faults_differ h = cc
+
+ok_not_err : (n : ℤ) → ◌≡◌ {A = Result ℤ NumberFault} (Ok n) (Err TooLong) → ⊥
+ok_not_err n h = cc
+
+-- what is refused as too long, and what isn't a number
+long_form : (word : List ℕ) (form long : Bool) → has_number_form word ≡ form → nat_lt 18 (length (digits_part word)) ≡ long → number_of word ≡ Err TooLong → (n : ℤ) × IsLongNumber word n
+unfolding number_of
+long_form word false long f l h =
+    let refused : number_of word ≡ Err NotANumber = cond-true _ _ _ (ap not f) in
+    absurd (faults_differ (sym refused ∙ h))
+long_form word true false f l h =
+    let read : number_of word ≡ Ok (signed_value word) = cond-false _ _ _ (ap not f) ∙ cond-false _ _ _ l in
+    absurd (ok_not_err (signed_value word) (sym read ∙ h))
+long_form word true true f l h =
+    elim (or_cases _ _ f) [
+      | inl zero_word ↦
+          let is : word ≡ 48 ∷ [] = (bytes_eq-Decides word (48 ∷ [])).0 zero_word in
+          let short : length (digits_part word) ≡ 1 = rw is refl in
+          absurd (omega (arith, short, ltb-true _ _ l))
+      | inr plain ↦ long_word word plain (ltb-true _ _ l)
+    ]
+
+too_long : (word ds : List ℕ) → digits_part word ≡ ds → is_plain_digits ds ≡ true → 10 ^ 18 ≤ digits_value 10 ds → number_of word ≡ Err TooLong
+unfolding number_of
+too_long word ds is plain large =
+    let form : has_number_form word ≡ true = or_right _ _ (ap is_plain_digits is ∙ plain) in
+    let long : nat_lt 18 (length (digits_part word)) ≡ true = ap (λ l. nat_lt 18 (length l)) is ∙ length_large ds (plain_parts _ plain) large in
+    cond-false _ _ _ (not_from_true _ form) ∙ cond-true _ _ _ long
+
+long_read : (word : List ℕ) (n : ℤ) → IsLongNumber word n → number_of word ≡ Err TooLong
+long_read word (pos v) is =
+    let plain = plain_parts is.digits is.plain in
+    let unsigned : digits_part is.digits ≡ is.digits = cond-false _ _ _ (no_sign is.digits plain.each plain.some) in
+    too_long word is.digits (ap digits_part is.form ∙ unsigned) is.plain (omega (arith, is.long, is.value))
+long_read word (negsuc v) is = too_long word is.digits (ap digits_part is.form) is.plain (omega (arith, is.long, is.value))
+
+-- a word is too long exactly where it is the decimal form of a number of over 18 digits
+pub number_of-long : (word : List ℕ) (r : Result ℤ NumberFault) → r ≡ number_of word → (r ≡ Err TooLong) ↔ ((n : ℤ) × IsLongNumber word n)
+number_of-long word r e = (
+  (λ h. long_form word (has_number_form word) (nat_lt 18 (length (digits_part word))) refl refl (sym e ∙ h)),
+  (λ found. e ∙ long_read word found.0 found.1),
+)

@@ -1,5 +1,5 @@
 -- The form of a number, and what it is.
-use Rattle.std.specs.Prelude.{◌≡◌, ℕ, ◌<◌, ◌^◌, Bool, not, ◌||◌, ◌&&◌, List, length, drop, ℤ, pos, neg_ℤ, unsigned_abs, Result, Ok, Err, nat_lt, ◌==◌, if◌then◌else◌, slice_index, codes}
+use Rattle.std.specs.Prelude.{◌≡◌, ℕ, ◌<◌, ◌≤◌, ◌^◌, Bool, true, not, ◌||◌, ◌&&◌, List, ◌∷◌, length, drop, ℤ, pos, negsuc, neg_ℤ, unsigned_abs, Result, Ok, Err, nat_lt, ◌==◌, if◌then◌else◌, slice_index, codes}
 use Rattle.std.specs.List.{list_all}
 use Rattle.std.specs.Char.{is_ascii_digit}
 use Rattle.std.specs.Str.{bytes_eq}
@@ -28,6 +28,19 @@ is_plain_digits digits = nat_lt 0 (length digits) && list_all is_ascii_digit dig
 -- `0`, or an optional `-` and digits without a leading zero
 abbrev pub has_number_form : List ℕ → Bool
 has_number_form word = bytes_eq word (codes "0") || is_plain_digits (digits_part word)
+
+-- digits behind a `-` where the number is negative
+abbrev pub with_sign : ℤ → List ℕ → List ℕ
+with_sign (pos n) digits = digits
+with_sign (negsuc n) digits = 45 ∷ digits
+
+-- the word is the decimal form of a number of over 18 digits
+pub record IsLongNumber (word : List ℕ) (n : ℤ) : Type 0 where
+  pub digits : List ℕ
+  pub plain : is_plain_digits digits ≡ true
+  pub value : digits_value 10 digits ≡ unsigned_abs n
+  pub form : word ≡ with_sign n digits
+  pub long : 10 ^ 18 ≤ unsigned_abs n
 
 -- what the digits and the sign represent
 abbrev pub signed_value : List ℕ → ℤ

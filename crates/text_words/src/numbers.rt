@@ -1,8 +1,8 @@
-ghost use Rattle.std.specs.Prelude.{◌≡◌, ◌^◌, ◌<◌, ◌≤◌, ℤ, pos, IsTrue, Ok, IfOk, length};
+ghost use Rattle.std.specs.Prelude.{◌≡◌, ◌↔◌, ◌^◌, ◌<◌, ◌≤◌, ℤ, pos, IsTrue, Ok, Err, IfOk, length};
 ghost use Rattle.std.specs.List.{list_all};
 ghost use Rattle.std.specs.Char.{is_ascii_digit};
 ghost use Rattle.std.specs.Str.Parse.{digits_value};
-ghost use Rattle.text_words.specs.Numbers.{IsNumber, number_of, has_number_form, is_plain_digits, has_sign, digits_part, signed_value};
+ghost use Rattle.text_words.specs.Numbers.{IsNumber, IsLongNumber, number_of, has_number_form, is_plain_digits, has_sign, digits_part, signed_value};
 
 use thiserror::Error;
 
@@ -93,6 +93,9 @@ pub fn number(word: &[u8]) -> Result<i64, NumberFault>
 
     // Each decimal form of at most 18 digits is read.
     ensures only { (n : ℤ) → IsNumber word.now n → result ≡ Ok n }
+
+    // What is too long is the decimal form of a number of over 18 digits, and each such form is too long.
+    ensures long { (result ≡ Err NumberFault.TooLong) ↔ ((n : ℤ) × IsLongNumber word.now n) }
 {
     represented(word)
 }

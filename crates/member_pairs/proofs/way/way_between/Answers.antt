@@ -1,11 +1,12 @@
 use Rattle.std.proofs.Common.{◌≡◌, arith, ℤ, ◌-ℤ◌, FitsSigned, to_z, of_z, to_z-of_z}
 use Rattle.std.proofs.lemmas.Int.{ints}
 use Rattle.std.specs.Int.{w64}
-use Rattle.model_types.specs.Ranges.{IsIn, coordinate}
+use Rattle.model_types.specs.Ranges.{IsIn}
+use Rattle.model_types.specs.declared.ranges.TheConstants.{COORDINATE}
 use Rattle.member_pairs.proofs.WayLemmas.{way_in_range}
 use Rattle.member_pairs.proofs.way.way_between.Goals as goal
 
-difference_is : (a b : ℤ) → IsIn coordinate a → IsIn coordinate b → to_z w64 (of_z w64 (to_z w64 (of_z w64 a) -ℤ to_z w64 (of_z w64 b))) ≡ a -ℤ b
+difference_is : (a b : ℤ) → IsIn COORDINATE a → IsIn COORDINATE b → to_z w64 (of_z w64 (to_z w64 (of_z w64 a) -ℤ to_z w64 (of_z w64 b))) ≡ a -ℤ b
 difference_is a b p q =
     let a_fits : FitsSigned w64 a = omega (arith, ints, p.least, p.most) in
     let b_fits : FitsSigned w64 b = omega (arith, ints, q.least, q.most) in

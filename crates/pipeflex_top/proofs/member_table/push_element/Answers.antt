@@ -4,7 +4,8 @@ use Rattle.text_words.specs.Fields.{line}
 use Rattle.member_set.specs.declared.members.Member.{Member}
 use Rattle.model_types.specs.declared.records.Shape.{Shape}
 use Rattle.model_types.specs.declared.records.Shape.TheVariants.{Straight}
-use Rattle.structure.specs.Elements.{members_of_element, member_count}
+use Rattle.model_types.specs.MemberCounts.{shape_member_count}
+use Rattle.structure.specs.Elements.{members_of_element}
 use Rattle.pipeflex_top.specs.MemberTable.{element_lines}
 use Rattle.pipeflex_top.proofs.TableLemmas.{element_written}
 use Rattle.pipeflex_top.proofs.member_table.push_element.Goals as goal

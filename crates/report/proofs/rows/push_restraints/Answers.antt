@@ -5,8 +5,9 @@ use Rattle.lists.specs.Listed.{listed}
 use Rattle.text_words.specs.Fields.{line}
 use Rattle.model_types.specs.declared.answers.Bounds.{Bounds}
 use Rattle.report.specs.Fits.{IsModest}
-use Rattle.report.specs.Report.{bounds_line, load_count, loads_before, loads_of, restraint_bounds, restraint_key}
+use Rattle.report.specs.Report.{bounds_line, loads_before, load_count_of, restraint_bounds, restraint_key}
 use Rattle.report.proofs.RowLemmas.{loads_more, restraint_written}
+use Rattle.model_types.specs.MemberCounts.{restraints_member_count, restraint_member_count}
 use Rattle.report.proofs.rows.push_restraints.Goals as goal
 
 pub split_at-requires : goal.split_at-requires
@@ -14,8 +15,8 @@ split_at-requires c =
     let loads = c.args.loads.now in
     let restraints = c.args.restraints.now in
     let i = c.loop-restraint.restraint-index in
-    let count = c.load_count-count.result in
-    let own : count ≡ load_count c.restraint-item.result.kind = c.load_count-count.ensures in
+    let count = c.member_count-count.result in
+    let own : count ≡ restraint_member_count c.restraint-item.result.kind = c.member_count-count.ensures in
     let more = loads_more restraints i c.restraint-item.result c.loop-restraint-test.true c.restraint-item.is in
     let enough : count ≤ length (drop (loads_before restraints i) loads) = omega (arith, length-drop (loads_before restraints i) loads, more.1, own, c.requires.one_each) in
     rw c.loop-restraint.invariant.left enough
@@ -27,8 +28,8 @@ loop-restraint-preserved c =
     let restraints = c.args.restraints.now in
     let loads = c.args.loads.now in
     let i = c.loop-restraint.restraint-index in
-    let count = c.load_count-count.result in
-    let own : count ≡ load_count c.restraint-item.result.kind = c.load_count-count.ensures in
+    let count = c.member_count-count.result in
+    let own : count ≡ restraint_member_count c.restraint-item.result.kind = c.member_count-count.ensures in
     let before = loads_before restraints i in
     let more = loads_more restraints i c.restraint-item.result c.loop-restraint-test.true c.restraint-item.is in
     let counted : before + count ≡ loads_before restraints (i + 1) = ap (λ n. before + n) own ∙ sym more.0 in
@@ -45,4 +46,4 @@ pub returns-clause-written : goal.returns-clause-written
 returns-clause-written c =
     let restraints = c.args.restraints.now in
     let whole : c.loop-restraint.restraint-index ≡ length restraints = omega (arith, c.loop-restraint.invariant.inside, c.loop-restraint-test.false) in
-    subst (λ count. c.loop-restraint.out.items ≡ c.args.out.now.items ++ flat_map line (listed count (bounds_line (restraint_key restraints) (loads_of restraints) (restraint_bounds restraints c.args.loads.now)))) whole c.loop-restraint.invariant.written
+    subst (λ count. c.loop-restraint.out.items ≡ c.args.out.now.items ++ flat_map line (listed count (bounds_line (restraint_key restraints) (load_count_of restraints) (restraint_bounds restraints c.args.loads.now)))) whole c.loop-restraint.invariant.written
