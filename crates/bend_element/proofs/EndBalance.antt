@@ -1,15 +1,15 @@
 -- What each member of a bend does at its two ends is in balance.
-use Rattle.std.proofs.Common.{◌≡◌, ◌^◌, [], ◌∷◌, List, ℕ, refl, ap, sym, ◌∙◌, arith, true, ℤ, pos, ◌+ℤ◌, ◌*ℤ◌, neg_ℤ, ◌<ℤ◌}
+use Rattle.std.proofs.Common.{◌≡◌, ◌^◌, [], ◌∷◌, List, ℕ, refl, ap, ◌∙◌, arith, true, ℤ, pos, ◌+ℤ◌, ◌*ℤ◌, neg_ℤ, ◌<ℤ◌}
 use Rattle.std.proofs.lemmas.Int.{ints}
 use Rattle.int_laws.proofs.Sums.{int_sums}
 use Rattle.int_laws.proofs.Products.{mul_comm, zero-mul, mul_positive, same_of_mul}
-use Rattle.flex_interval.specs.Fraction.{Fraction, negated, times, plus, minus}
+use Rattle.flex_interval.specs.Fraction.{Fraction, negated, times, plus}
 use Rattle.member_pairs.specs.Axes.{Axis, x_axis, y_axis, z_axis, translation, rotation, from_end, to_end}
 use Rattle.member_pairs.specs.Vectors.{cross}
 use Rattle.member_pairs.specs.declared.tube.Tube.{Tube}
 use Rattle.bend_element.specs.Arc.{nil, unit, AreSame, IsDivisible}
 use Rattle.bend_element.specs.Arcs.{ExactArc}
-use Rattle.bend_element.specs.EndLoads.{dot, IsFrame, IsUpright, whole_chord, InBalance, MembersBalance}
+use Rattle.bend_element.specs.EndLoads.{dot, IsFrame, whole_chord, MembersBalance}
 use Rattle.bend_element.specs.ExactBend.{Mode, plane_rotation, radial_force, chord_force, radius_moment, chord_moment, normal_force, plane_centre, normal_centre, ExactFrame, side, shape_of}
 use Rattle.bend_element.proofs.ArcLaw.{Common, itself, joined, alone, both_read, unit_reads, plane_centre_defined, normal_centre_defined}
 use Rattle.bend_element.proofs.ArcReadings.{Reads, reads_at, reads_same, reads_from_same, reads_negated, reads_times, reads_plus, reads_minus}
@@ -19,22 +19,29 @@ use Rattle.bend_element.proofs.Polynomials.{Polynomial, variable, opposite, adde
 -- of 1, half the chord, the elastic centres, the unit vectors' parts, the denominator and 2^56
 abbrev pE : Polynomial
 pE = variable 0
+
 abbrev pHalf : Polynomial
 pHalf = variable 1
+
 abbrev pPlane : Polynomial
 pPlane = variable 2
+
 abbrev pCentre : Polynomial
 pCentre = variable 3
+
 abbrev pChord : Axis → Polynomial
 pChord x_axis = variable 4
 pChord y_axis = variable 5
 pChord z_axis = variable 6
+
 abbrev pNormal : Axis → Polynomial
 pNormal x_axis = variable 7
 pNormal y_axis = variable 8
 pNormal z_axis = variable 9
+
 abbrev pD : Polynomial
 pD = variable 10
+
 abbrev pU : Polynomial
 pU = variable 11
 
