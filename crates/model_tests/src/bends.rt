@@ -25,7 +25,7 @@ struct Wanted {
 }
 
 // A pipe of 168.3 mm by 7.11 mm, with E of 200,000 MPa and a Poisson's ratio of 0.3.
-fn check(rt: &impl Abort, arc: &Arc, way: &Way, normal: &[Iv; 3], wanted: &Wanted)
+fn members_of(rt: &impl Abort, arc: &Arc, way: &Way, normal: &[Iv; 3]) -> [Member; 6]
     requires arc { IsArc arc.now }
     requires way { IsWay way.now }
 {
@@ -42,8 +42,14 @@ fn check(rt: &impl Abort, arc: &Arc, way: &Way, normal: &[Iv; 3], wanted: &Wante
         section: SectionId(0),
         shape: Shape::Straight,
     };
-    let members = bend_members(&bend, &tube, arc, way, normal).expect(rt, "a bend");
-    judge(rt, &members, wanted);
+    bend_members(&bend, &tube, arc, way, normal).expect(rt, "a bend")
+}
+
+fn check(rt: &impl Abort, arc: &Arc, way: &Way, normal: &[Iv; 3], wanted: &Wanted)
+    requires arc { IsArc arc.now }
+    requires way { IsWay way.now }
+{
+    judge(rt, &members_of(rt, arc, way, normal), wanted);
 }
 
 fn judge(rt: &impl Abort, members: &[Member], wanted: &Wanted) {
@@ -175,22 +181,65 @@ const LONG: [Iv; 3] = [
     },
 ];
 
-#[test]
-fn bends(rt: HostRuntime) {
-    let way = Way {
-        x: 229_000,
-        y: 229_000,
-        z: 0,
-    };
-    let down = Iv { lo: -ONE, hi: -ONE };
-    let normal = [NOTHING, NOTHING, down];
-    let stiff = Iv { lo: ONE, hi: ONE };
-    check(&rt, &quarter(stiff), &way, &normal, &STIFF_QUARTER);
-    let flexible = Iv {
+// The factor k is 1.
+pub(crate) fn stiff_quarter() -> Arc
+    ensures { IsArc result }
+{
+    quarter(Iv { lo: ONE, hi: ONE })
+}
+
+// The factor k is 6.582563.
+pub(crate) fn flexible_quarter() -> Arc
+    ensures { IsArc result }
+{
+    quarter(Iv {
         lo: 474_323_691_783_544_937,
         hi: 474_323_691_783_544_938,
-    };
-    check(&rt, &quarter(flexible), &way, &normal, &QUARTER);
+    })
+}
+
+// The factor k is 1, of a radius of 1.5 m.
+pub(crate) fn long_quarter() -> Arc
+    ensures { IsArc result }
+{
+    Arc {
+        radius: 1_500_000,
+        ..stiff_quarter()
+    }
+}
+
+// Along x, then y.
+pub(crate) fn quarter_members(rt: &impl Abort, arc: &Arc, way: &Way) -> [Member; 6]
+    requires arc { IsArc arc.now }
+    requires way { IsWay way.now }
+{
+    members_of(rt, arc, way, &[NOTHING, NOTHING, Iv { lo: -ONE, hi: -ONE }])
+}
+
+pub(crate) const SHORT_WAY: Way = Way {
+    x: 229_000,
+    y: 229_000,
+    z: 0,
+};
+
+pub(crate) const LONG_WAY: Way = Way {
+    x: 1_500_000,
+    y: 1_500_000,
+    z: 0,
+};
+
+#[test]
+fn bends(rt: HostRuntime) {
+    judge(
+        &rt,
+        &quarter_members(&rt, &stiff_quarter(), &SHORT_WAY),
+        &STIFF_QUARTER,
+    );
+    judge(
+        &rt,
+        &quarter_members(&rt, &flexible_quarter(), &SHORT_WAY),
+        &QUARTER,
+    );
 }
 
 #[test]

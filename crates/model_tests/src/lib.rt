@@ -2,6 +2,8 @@
 #![tactic(auto)]
 
 #[cfg(test)]
+mod bend_loads;
+#[cfg(test)]
 mod bends;
 #[cfg(test)]
 mod cases;
@@ -11,6 +13,8 @@ mod factors;
 mod loads;
 #[cfg(test)]
 mod makers;
+#[cfg(test)]
+mod polygon;
 #[cfg(test)]
 mod records;
 #[cfg(test)]
