@@ -14,7 +14,7 @@ use Rattle.text_words.specs.Fields.{lines}
 use Rattle.model_text.specs.Grammar.{after_lines, parsed, IsLineOf}
 use Rattle.model_text.specs.Lines.{State, start, after_line, after_words, is_header, is_loaded_case, is_of_kind, judged, makes, taken, record_taken}
 use Rattle.model_text.specs.Records.{is_unbuilt, record_of_words, record_under}
-use Rattle.model_text.specs.Rows.{Field, first_word, form_of, kind_made, row, row_width, width, Values, made, read_field, read_row, record_in}
+use Rattle.model_text.specs.Rows.{Field, form_of, kind_made, row, row_width, width, Values, made, read_field, read_row, record_in}
 use Rattle.model_text.specs.declared.records.Form.{Form}
 use Rattle.model_text.specs.declared.records.Form.TheVariants as form
 use Rattle.model_text.specs.Words.{words, word, is_allowed}

@@ -17,7 +17,7 @@ use Rattle.model_types.specs.Ranges.{KindInForm}
 use Rattle.model_types.specs.Kinds.{Kind, material_kind, section_kind, node_kind, element_kind, restraint_kind, case_kind, force_kind, Of, as_record, before}
 use Rattle.model_types.specs.Rules.{Keeps, IsModel}
 use Rattle.model_text.specs.Records.{record_of_words, record_under}
-use Rattle.model_text.specs.Rows.{first_word, form_of, row, Values, made, record_in, form_words, restraint_words, words_of}
+use Rattle.model_text.specs.Rows.{first_word, form_of, row, Values, made, form_words, restraint_words, words_of}
 use Rattle.model_text.specs.declared.records.Form.{Form}
 use Rattle.model_text.specs.declared.records.Form.TheVariants as form_named
 use Rattle.model_text.proofs.PlainWords.{is_plain, ArePlain, one_more}

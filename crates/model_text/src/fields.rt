@@ -3,9 +3,8 @@ ghost use Rattle.std.specs.Prelude.{◌≡◌, ◌↔◌, pos, IsTrue, IfOk};
 ghost use Rattle.text_words.specs.Names.{IsName};
 ghost use Rattle.model_types.specs.Ranges.{IsIn, IsStiffness, IsDirection};
 ghost use Rattle.model_text.specs.Fields as field;
-ghost use Rattle.model_text.specs.Words.{words};
 
-use crate::words::word;
+use crate::words::Words;
 use model_types::ranges::{DIRECTION_PART, STIFFNESS};
 use model_types::{Name, Range};
 use text_words::{NumberFault, number};
@@ -83,13 +82,13 @@ pub(crate) struct Direction {
 
 /// A direction, in the words 3 to 5 of a line: 7 where all its parts are 0.
 #[tactic(auto, unfolding(crate::specs::Fields::direction_at))]
-pub(crate) fn direction_of(line: &[u8]) -> Result<Direction, u8>
-    ensures value { result ≡ field.direction_at (words line.now) 3 }
+pub(crate) fn direction_of(line: &Words) -> Result<Direction, u8>
+    ensures value { result ≡ field.direction_at line.now 3 }
     ensures form { IfOk result (λ d. IsDirection d.x d.y d.z) }
 {
-    let x = number_in(word(line, 3), DIRECTION_PART)?;
-    let y = number_in(word(line, 4), DIRECTION_PART)?;
-    let z = number_in(word(line, 5), DIRECTION_PART)?;
+    let x = number_in(line.word(3), DIRECTION_PART)?;
+    let y = number_in(line.word(4), DIRECTION_PART)?;
+    let z = number_in(line.word(5), DIRECTION_PART)?;
     refuse_if(is_zero(x, y, z), 7)?;
     Ok(Direction { x, y, z })
 }

@@ -10,7 +10,7 @@ ghost use Rattle.model_text.specs.Words.{words, word};
 ghost use Rattle.text_words.specs.Fields.{lines};
 
 use crate::records::{Form, form_of, record_of_words};
-use crate::words::{count, is_allowed, word};
+use crate::words::{Words, is_allowed};
 use model_types::{AddFault, Bounds, Case, Draft, Model, NodeId, Record};
 use std::alloc::{AllocError, Global};
 use text_words::cut_line;
@@ -177,7 +177,7 @@ fn record_line(text: &[u8], form: Form, number: u32) -> u32
 fn makes(line: &[u8], form: Form) -> bool
     ensures { result ≡ line_of.makes (kind_made form) (word (words line.now) 0) }
 {
-    match form_of(word(line, 0)) {
+    match form_of(Words::of(line).word(0)) {
         Some(found) => place(found) == place(form),
         None => false,
     }
@@ -216,13 +216,14 @@ fn take_line(reading: &mut Reading, line: &[u8]) -> Result<(), AddFault>
     if !is_allowed(line) {
         return Err(AddFault::Refused(2));
     }
-    if count(line) == 0 {
+    let words = Words::of(line);
+    if words.count() == 0 {
         return Ok(());
     }
     if reading.header {
-        return take_record(&mut reading.draft, line);
+        return take_record(&mut reading.draft, &words);
     }
-    if !is_header(line) {
+    if !is_header(&words) {
         return Err(AddFault::Refused(3));
     }
     reading.header = true;
@@ -230,16 +231,18 @@ fn take_line(reading: &mut Reading, line: &[u8]) -> Result<(), AddFault>
 }
 
 // Whether a line's words are `pipeflex 1`.
-fn is_header(line: &[u8]) -> bool
-    ensures { result ≡ line_of.is_header (words line.now) }
+fn is_header(line: &Words) -> bool
+    ensures { result ≡ line_of.is_header line.now }
 {
-    count(line) == 2 && word(line, 0) == b"pipeflex".as_slice() && word(line, 1) == b"1".as_slice()
+    line.count() == 2
+        && line.word(0) == b"pipeflex".as_slice()
+        && line.word(1) == b"1".as_slice()
 }
 
 // Takes the record of a line that has words.
-fn take_record(draft: &mut Draft, line: &[u8]) -> Result<(), AddFault>
-    ensures ok { OnOk result (line_of.record_taken draft.old (words line.now) ≡ Ok draft.new) }
-    ensures refused { (number : ℕ) → result ≡ Err (AddFault.Refused number) → line_of.record_taken draft.old (words line.now) ≡ Err number }
+fn take_record(draft: &mut Draft, line: &Words) -> Result<(), AddFault>
+    ensures ok { OnOk result (line_of.record_taken draft.old line.now ≡ Ok draft.new) }
+    ensures refused { (number : ℕ) → result ≡ Err (AddFault.Refused number) → line_of.record_taken draft.old line.now ≡ Err number }
 {
     match record_of_words(draft, line) {
         Ok(found) => judge(draft, found),

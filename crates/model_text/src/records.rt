@@ -4,10 +4,9 @@ ghost use Rattle.model_types.specs.Lists.{Lists};
 ghost use Rattle.model_types.specs.Ranges.{InForm};
 ghost use Rattle.model_text.specs.Records as record_of;
 ghost use Rattle.model_text.specs.Rows as row_of;
-ghost use Rattle.model_text.specs.Words.{words};
 
 use crate::fields::{direction_of, flag_at, name_at, number_in, refuse_if, stiffness_in};
-use crate::words::{count, word};
+use crate::words::Words;
 use model_types::ranges::{
     ACCELERATION, COORDINATE, DENSITY, DIAMETER, EXPANSION, EXTRA_WEIGHT, LOAD, MODULUS,
     POISSON_RATIO, PRESSURE, TEMPERATURE_CHANGE, WALL, WALL_ALLOWANCE,
@@ -67,11 +66,11 @@ pub(crate) fn form_of(word: &[u8]) -> Option<Form>
 }
 
 /// The record of a line that has words, or the number that refuses it: 4, 5, 6, 7 or 17.
-pub(crate) fn record_of_words(draft: &Draft, line: &[u8]) -> Result<Record, u8>
-    ensures value { result ≡ record_of.record_of_words draft.now (words line.now) }
+pub(crate) fn record_of_words(draft: &Draft, line: &Words) -> Result<Record, u8>
+    ensures value { result ≡ record_of.record_of_words draft.now line.now }
     ensures form { IfOk result InForm }
 {
-    let first = word(line, 0);
+    let first = line.word(0);
     match form_of(first) {
         Some(form) => record_in(draft, form, line),
         None => Err(if is_unbuilt(first) { 17 } else { 4 }),
@@ -79,8 +78,8 @@ pub(crate) fn record_of_words(draft: &Draft, line: &[u8]) -> Result<Record, u8>
 }
 
 // The record of a line in that form.
-fn record_in(draft: &Draft, form: Form, line: &[u8]) -> Result<Record, u8>
-    ensures value { result ≡ row_of.record_in draft.now form (words line.now) }
+fn record_in(draft: &Draft, form: Form, line: &Words) -> Result<Record, u8>
+    ensures value { result ≡ row_of.record_in draft.now form line.now }
     ensures form { IfOk result InForm }
 {
     match form {
@@ -120,16 +119,16 @@ fn number_named(draft: &Draft, space: Space, word: &[u8]) -> Result<u32, u8>
 }
 
 // material NAME E NU ALPHA RHO
-fn material(line: &[u8]) -> Result<Record, u8>
-    ensures value { (m : Lists) → result ≡ row_of.record_in m Form.Material (words line.now) }
+fn material(line: &Words) -> Result<Record, u8>
+    ensures value { (m : Lists) → result ≡ row_of.record_in m Form.Material line.now }
     ensures form { IfOk result InForm }
 {
-    refuse_if(count(line) != 6, 5)?;
-    let name = name_at(word(line, 1))?;
-    let e = number_in(word(line, 2), MODULUS)?;
-    let nu = number_in(word(line, 3), POISSON_RATIO)?;
-    let alpha = number_in(word(line, 4), EXPANSION)?;
-    let rho = number_in(word(line, 5), DENSITY)?;
+    refuse_if(line.count() != 6, 5)?;
+    let name = name_at(line.word(1))?;
+    let e = number_in(line.word(2), MODULUS)?;
+    let nu = number_in(line.word(3), POISSON_RATIO)?;
+    let alpha = number_in(line.word(4), EXPANSION)?;
+    let rho = number_in(line.word(5), DENSITY)?;
     Ok(Record::Material(Material {
         name,
         e,
@@ -140,17 +139,17 @@ fn material(line: &[u8]) -> Result<Record, u8>
 }
 
 // section NAME MATERIAL D T ALLOWANCE EXTRA
-fn section(draft: &Draft, line: &[u8]) -> Result<Record, u8>
-    ensures value { result ≡ row_of.record_in draft.now Form.Section (words line.now) }
+fn section(draft: &Draft, line: &Words) -> Result<Record, u8>
+    ensures value { result ≡ row_of.record_in draft.now Form.Section line.now }
     ensures form { IfOk result InForm }
 {
-    refuse_if(count(line) != 7, 5)?;
-    let name = name_at(word(line, 1))?;
-    let material = MaterialId(number_named(draft, Space::Material, word(line, 2))?);
-    let d = number_in(word(line, 3), DIAMETER)?;
-    let t = number_in(word(line, 4), WALL)?;
-    let allowance = number_in(word(line, 5), WALL_ALLOWANCE)?;
-    let extra = number_in(word(line, 6), EXTRA_WEIGHT)?;
+    refuse_if(line.count() != 7, 5)?;
+    let name = name_at(line.word(1))?;
+    let material = MaterialId(number_named(draft, Space::Material, line.word(2))?);
+    let d = number_in(line.word(3), DIAMETER)?;
+    let t = number_in(line.word(4), WALL)?;
+    let allowance = number_in(line.word(5), WALL_ALLOWANCE)?;
+    let extra = number_in(line.word(6), EXTRA_WEIGHT)?;
     Ok(Record::Section(Section {
         name,
         material,
@@ -162,28 +161,28 @@ fn section(draft: &Draft, line: &[u8]) -> Result<Record, u8>
 }
 
 // node NAME X Y Z
-fn node(line: &[u8]) -> Result<Record, u8>
-    ensures value { (m : Lists) → result ≡ row_of.record_in m Form.Node (words line.now) }
+fn node(line: &Words) -> Result<Record, u8>
+    ensures value { (m : Lists) → result ≡ row_of.record_in m Form.Node line.now }
     ensures form { IfOk result InForm }
 {
-    refuse_if(count(line) != 5, 5)?;
-    let name = name_at(word(line, 1))?;
-    let x = number_in(word(line, 2), COORDINATE)?;
-    let y = number_in(word(line, 3), COORDINATE)?;
-    let z = number_in(word(line, 4), COORDINATE)?;
+    refuse_if(line.count() != 5, 5)?;
+    let name = name_at(line.word(1))?;
+    let x = number_in(line.word(2), COORDINATE)?;
+    let y = number_in(line.word(3), COORDINATE)?;
+    let z = number_in(line.word(4), COORDINATE)?;
     Ok(Record::Node(Node { name, x, y, z }))
 }
 
 // straight NAME FROM TO SECTION
-fn straight(draft: &Draft, line: &[u8]) -> Result<Record, u8>
-    ensures value { result ≡ row_of.record_in draft.now Form.Straight (words line.now) }
+fn straight(draft: &Draft, line: &Words) -> Result<Record, u8>
+    ensures value { result ≡ row_of.record_in draft.now Form.Straight line.now }
     ensures form { IfOk result InForm }
 {
-    refuse_if(count(line) != 5, 5)?;
-    let name = name_at(word(line, 1))?;
-    let from = NodeId(number_named(draft, Space::Node, word(line, 2))?);
-    let to = NodeId(number_named(draft, Space::Node, word(line, 3))?);
-    let section = SectionId(number_named(draft, Space::Section, word(line, 4))?);
+    refuse_if(line.count() != 5, 5)?;
+    let name = name_at(line.word(1))?;
+    let from = NodeId(number_named(draft, Space::Node, line.word(2))?);
+    let to = NodeId(number_named(draft, Space::Node, line.word(3))?);
+    let section = SectionId(number_named(draft, Space::Section, line.word(4))?);
     Ok(Record::Element(Element {
         name,
         from,
@@ -194,29 +193,29 @@ fn straight(draft: &Draft, line: &[u8]) -> Result<Record, u8>
 }
 
 // anchor NAME NODE KT KR
-fn anchor(draft: &Draft, line: &[u8]) -> Result<Record, u8>
-    ensures value { result ≡ row_of.record_in draft.now Form.Anchor (words line.now) }
+fn anchor(draft: &Draft, line: &Words) -> Result<Record, u8>
+    ensures value { result ≡ row_of.record_in draft.now Form.Anchor line.now }
     ensures form { IfOk result InForm }
 {
-    refuse_if(count(line) != 5, 5)?;
-    let name = name_at(word(line, 1))?;
-    let node = NodeId(number_named(draft, Space::Node, word(line, 2))?);
-    let kt = stiffness_in(word(line, 3))?;
-    let kr = stiffness_in(word(line, 4))?;
+    refuse_if(line.count() != 5, 5)?;
+    let name = name_at(line.word(1))?;
+    let node = NodeId(number_named(draft, Space::Node, line.word(2))?);
+    let kt = stiffness_in(line.word(3))?;
+    let kr = stiffness_in(line.word(4))?;
     let kind = RestraintKind::Anchor { kt, kr };
     Ok(Record::Restraint(Restraint { name, node, kind }))
 }
 
 // linear NAME NODE DX DY DZ K
-fn linear(draft: &Draft, line: &[u8]) -> Result<Record, u8>
-    ensures value { result ≡ row_of.record_in draft.now Form.Linear (words line.now) }
+fn linear(draft: &Draft, line: &Words) -> Result<Record, u8>
+    ensures value { result ≡ row_of.record_in draft.now Form.Linear line.now }
     ensures form { IfOk result InForm }
 {
-    refuse_if(count(line) != 7, 5)?;
-    let name = name_at(word(line, 1))?;
-    let node = NodeId(number_named(draft, Space::Node, word(line, 2))?);
+    refuse_if(line.count() != 7, 5)?;
+    let name = name_at(line.word(1))?;
+    let node = NodeId(number_named(draft, Space::Node, line.word(2))?);
     let d = direction_of(line)?;
-    let k = stiffness_in(word(line, 6))?;
+    let k = stiffness_in(line.word(6))?;
     let kind = RestraintKind::Linear {
         dx: d.x,
         dy: d.y,
@@ -227,15 +226,15 @@ fn linear(draft: &Draft, line: &[u8]) -> Result<Record, u8>
 }
 
 // twist NAME NODE DX DY DZ K
-fn twist(draft: &Draft, line: &[u8]) -> Result<Record, u8>
-    ensures value { result ≡ row_of.record_in draft.now Form.Twist (words line.now) }
+fn twist(draft: &Draft, line: &Words) -> Result<Record, u8>
+    ensures value { result ≡ row_of.record_in draft.now Form.Twist line.now }
     ensures form { IfOk result InForm }
 {
-    refuse_if(count(line) != 7, 5)?;
-    let name = name_at(word(line, 1))?;
-    let node = NodeId(number_named(draft, Space::Node, word(line, 2))?);
+    refuse_if(line.count() != 7, 5)?;
+    let name = name_at(line.word(1))?;
+    let node = NodeId(number_named(draft, Space::Node, line.word(2))?);
     let d = direction_of(line)?;
-    let k = stiffness_in(word(line, 6))?;
+    let k = stiffness_in(line.word(6))?;
     let kind = RestraintKind::Twist {
         dx: d.x,
         dy: d.y,
@@ -246,18 +245,18 @@ fn twist(draft: &Draft, line: &[u8]) -> Result<Record, u8>
 }
 
 // case NAME GX GY GZ HANGERS DT P
-fn case(line: &[u8]) -> Result<Record, u8>
-    ensures value { (m : Lists) → result ≡ row_of.record_in m Form.Case (words line.now) }
+fn case(line: &Words) -> Result<Record, u8>
+    ensures value { (m : Lists) → result ≡ row_of.record_in m Form.Case line.now }
     ensures form { IfOk result InForm }
 {
-    refuse_if(count(line) != 8, 5)?;
-    let name = name_at(word(line, 1))?;
-    let gx = number_in(word(line, 2), ACCELERATION)?;
-    let gy = number_in(word(line, 3), ACCELERATION)?;
-    let gz = number_in(word(line, 4), ACCELERATION)?;
-    let hangers = flag_at(word(line, 5))?;
-    let dt = number_in(word(line, 6), TEMPERATURE_CHANGE)?;
-    let p = number_in(word(line, 7), PRESSURE)?;
+    refuse_if(line.count() != 8, 5)?;
+    let name = name_at(line.word(1))?;
+    let gx = number_in(line.word(2), ACCELERATION)?;
+    let gy = number_in(line.word(3), ACCELERATION)?;
+    let gz = number_in(line.word(4), ACCELERATION)?;
+    let hangers = flag_at(line.word(5))?;
+    let dt = number_in(line.word(6), TEMPERATURE_CHANGE)?;
+    let p = number_in(line.word(7), PRESSURE)?;
     Ok(Record::Case(Case {
         name,
         gx,
@@ -270,19 +269,19 @@ fn case(line: &[u8]) -> Result<Record, u8>
 }
 
 // force CASE NODE FX FY FZ MX MY MZ
-fn force(draft: &Draft, line: &[u8]) -> Result<Record, u8>
-    ensures value { result ≡ row_of.record_in draft.now Form.Force (words line.now) }
+fn force(draft: &Draft, line: &Words) -> Result<Record, u8>
+    ensures value { result ≡ row_of.record_in draft.now Form.Force line.now }
     ensures form { IfOk result InForm }
 {
-    refuse_if(count(line) != 9, 5)?;
-    let case = CaseId(number_named(draft, Space::Case, word(line, 1))?);
-    let node = NodeId(number_named(draft, Space::Node, word(line, 2))?);
-    let fx = number_in(word(line, 3), LOAD)?;
-    let fy = number_in(word(line, 4), LOAD)?;
-    let fz = number_in(word(line, 5), LOAD)?;
-    let mx = number_in(word(line, 6), LOAD)?;
-    let my = number_in(word(line, 7), LOAD)?;
-    let mz = number_in(word(line, 8), LOAD)?;
+    refuse_if(line.count() != 9, 5)?;
+    let case = CaseId(number_named(draft, Space::Case, line.word(1))?);
+    let node = NodeId(number_named(draft, Space::Node, line.word(2))?);
+    let fx = number_in(line.word(3), LOAD)?;
+    let fy = number_in(line.word(4), LOAD)?;
+    let fz = number_in(line.word(5), LOAD)?;
+    let mx = number_in(line.word(6), LOAD)?;
+    let my = number_in(line.word(7), LOAD)?;
+    let mz = number_in(line.word(8), LOAD)?;
     Ok(Record::Force(Force {
         case,
         node,

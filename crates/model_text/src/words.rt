@@ -1,37 +1,107 @@
-//! The words of a line. They are found again for each use, since a record has few, and take no memory.
-ghost use Rattle.std.specs.Prelude.{◌≡◌, length, position, slice_get};
-ghost use Rattle.std.specs.Option.{option_map};
-ghost use Rattle.std.specs.List.{before_first, list_all};
-ghost use Rattle.model_text.specs.Words.{is_blank, starts_comment, is_allowed, is_word, words, word};
+//! The words of a line.
+ghost use Rattle.std.specs.Prelude.{◌≡◌, ◌∷◌, ◌+◌, ◌<◌, ◌≤◌, length, position, option_copied};
+ghost use Rattle.std.specs.List.{before_first, list_all, slice_split};
+ghost use Rattle.model_text.specs.Words.{is_blank, starts_comment, is_allowed, is_word, words, word, parts_left};
 
-/// The word of a line with `k` words before it; nothing where the line has no more than `k` words.
-pub(crate) fn word(line: &[u8], k: usize) -> &[u8]
-    ensures { result.now ≡ word (words line.now) k }
-{
-    match nth(line, k) {
-        Some(found) => found,
-        None => b"",
+/// No record has more words.
+pub(crate) const MOST_WORDS: usize = 10;
+
+// One place for each, and one for any further word.
+const PLACES: usize = 11;
+
+/// A line that is cut into words. The first ten are at hand.
+#[derive(Drop)]
+pub(crate) struct Words<'a> {
+    line: &'a [u8],
+    first: [&'a [u8]; PLACES],
+    count: usize,
+}
+
+impl<'a> std::marker::Model for Words<'a> {
+    ghost use Rattle.std.specs.Prelude.{ℕ, List};
+    ghost use Rattle.model_text.specs.Words.{words};
+
+    ghost Value = { List (List ℕ) };
+
+    ghost view = { λ w. words w.line.now };
+
+    ghost use Rattle.std.specs.Prelude.{map};
+    ghost use Rattle.model_text.specs.Words.{AreFirstWords};
+
+    ghost invariant = { λ w. AreFirstWords (words w.line.now) w.count (map (λ part. part.now) w.first) };
+}
+
+impl<'a> Words<'a> {
+    /// The words of a line.
+    pub(crate) fn of(line: &'a [u8]) -> Words<'a>
+        ensures { result ≡ words line.now }
+    {
+        let mut first: [&'a [u8]; PLACES] = [b""; PLACES];
+        let mut count = 0;
+        let mut rest = Some(before_comment(line));
+        while let Some(left) = rest {
+            let (part, behind) = cut_part(left);
+            if is_word(part) {
+                first[place_of(count)] = part;
+                count = one_more(line, count);
+            }
+            rest = behind;
+        }
+        Words { line, first, count }
+    }
+
+    /// How many words the line has.
+    pub(crate) fn count(&self) -> usize
+        ensures { result ≡ length self.now }
+    {
+        self.count
+    }
+
+    /// The word with `k` words before it; nothing where the line has no more than `k` words.
+    pub(crate) fn word(&self, k: usize) -> &'a [u8]
+        requires { k < MOST_WORDS }
+        ensures { result.now ≡ word self.now k }
+    {
+        self.first[k]
     }
 }
 
-// The word of a line with `k` words before it, where there is one.
-fn nth(line: &[u8], k: usize) -> Option<&[u8]>
-    ensures { option_map (λ found. found.now) result ≡ slice_get (words line.now) k }
+// A count of words, which a line has no more of than bytes and one, and one more.
+fn one_more(line: &[u8], count: usize) -> usize
+    requires { count ≤ length line.now }
+    ensures { result ≡ count + 1 }
 {
-    before_comment(line)
-        .split(|byte| is_blank(*byte))
-        .filter(|part| is_word(part))
-        .nth(k)
+    count + 1
 }
 
-/// How many words a line has.
-pub(crate) fn count(line: &[u8]) -> usize
-    ensures { result ≡ length (words line.now) }
+// The place of a word with `count` words before it.
+fn place_of(count: usize) -> usize
+    ensures own { count < MOST_WORDS → result ≡ count }
+    ensures other { MOST_WORDS ≤ count → result ≡ MOST_WORDS }
+    ensures inside { result < PLACES }
 {
-    before_comment(line)
-        .split(|byte| is_blank(*byte))
-        .filter(|part| is_word(part))
-        .count()
+    if count < MOST_WORDS {
+        count
+    } else {
+        MOST_WORDS
+    }
+}
+
+// What stands before the first blank, and what stands behind it where there is one.
+fn cut_part(bytes: &[u8]) -> (&[u8], Option<&[u8]>)
+    ensures { slice_split is_blank bytes.now ≡ result.0.now ∷ parts_left (option_copied result.1) }
+{
+    match blank_at(bytes) {
+        Some(at) => (&bytes[..at], Some(&bytes[at + 1..])),
+        None => (bytes, None),
+    }
+}
+
+// Where the first blank stands.
+fn blank_at(bytes: &[u8]) -> Option<usize>
+    ensures { result ≡ position is_blank bytes.now }
+{
+    bytes.iter().position(|byte| is_blank(*byte))
 }
 
 /// Whether each byte of a line may stand in a text.
