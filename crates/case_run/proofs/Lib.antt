@@ -12,3 +12,4 @@ pub mod SameStructures
 pub mod SameMargins
 pub mod SameAnswers
 pub mod SoundnessLaw
+pub mod ExistenceLaw

@@ -1,5 +1,5 @@
 ghost use Rattle.case_run.specs.Determined.{AnswersAreDetermined};
-ghost use Rattle.case_run.specs.Soundness.{AnswerHolds, AnswersHold};
+ghost use Rattle.case_run.specs.Soundness.{AnswerHolds, AnswersHold, RealisationsExist};
 
 /// What shows that the definition of the answers leaves no choice: at most one list of answers meets it.
 pub fn answers_are_determined()
@@ -17,4 +17,13 @@ pub fn answers_hold()
     member_set::laws_keep_stretch();
     certificate::bounds_hold();
     structure::structures_are_stiff();
+}
+
+/// What shows that there are realisations to speak of: the lower ends of a model's structure and of the loads of a case are
+/// one.
+pub fn realisations_exist()
+    ensures { RealisationsExist }
+{
+    member_set::rest_is_equilibrium();
+    structure::structures_hold_numbers();
 }
