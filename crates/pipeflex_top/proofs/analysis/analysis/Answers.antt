@@ -26,5 +26,5 @@ returns c =
       written = subst (λ answers. c.in_ok-bytes.bytes.items ≡ report_of model answers) c.deref-2.ensures.value c.in_ok-bytes.ensures;
       ends = subst (λ answers. EndsWith answers c.ending_with-status.result) c.deref.ensures.value c.ending_with-status.ensures;
       bounds = PrintBounds-always c.printed_pairs_hold.ensures model found.answers.items
-          (c.answers_hold.ensures.all model text_order found.answers.items c.nodes-_nodes.ensures.model found.ensures);
+          (c.answers_hold.ensures.all model text_order found.answers.items c.nodes-nodes.ensures.model found.ensures);
     }
