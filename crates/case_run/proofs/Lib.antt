@@ -12,3 +12,4 @@ pub mod GivenBounds
 pub mod GivenStructure
 pub mod Chained
 pub mod SoundnessLaw
+pub mod ExistenceLaw

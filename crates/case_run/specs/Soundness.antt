@@ -1,9 +1,16 @@
--- That the defined answers hold, whatever worked them out.
+-- That the defined answers hold, whatever worked them out, and that there are realisations that they speak of.
 use Rattle.std.specs.Prelude.{ℕ, List}
+use Rattle.flex_interval.specs.Ends.{Ends}
+use Rattle.member_set.specs.declared.members.Built.{Built}
+use Rattle.member_set.specs.Members.{system}
+use Rattle.member_set.specs.Realisation.{IsRealisation, lower_ends}
 use Rattle.model_types.specs.Lists.{Lists}
 use Rattle.model_types.specs.Rules.{IsModel}
 use Rattle.model_types.specs.declared.answers.CaseAnswer.{CaseAnswer}
-use Rattle.case_run.specs.Causes.{Plan}
+use Rattle.structure.specs.Structure.{IsStructureOf}
+use Rattle.structure.specs.Enclosure.{EnclosesElements}
+use Rattle.load_vectors.specs.Loads.{AreLoads, EncloseLoads}
+use Rattle.case_run.specs.Causes.{Plan, resting_laws}
 use Rattle.case_run.specs.Certified.{IsCaseAnswer, AreCaseAnswers}
 use Rattle.case_run.specs.Equilibria.{HoldsAlways, HoldAlways}
 
@@ -14,3 +21,10 @@ AnswerHolds = (m : Lists) (p : Plan) (case : ℕ) (a : CaseAnswer) → IsModel m
 -- the same for all cases of a model
 abbrev pub AnswersHold : Type 0
 AnswersHold = (m : Lists) (p : Plan) (answers : List CaseAnswer) → IsModel m → AreCaseAnswers m p answers → HoldAlways m answers
+
+-- the lower ends of a model's structure and of a case's loads are a realisation, where the members hold the exact straights
+-- and the loads the exact loads
+abbrev pub RealisationsExist : Type 0
+RealisationsExist = (m : Lists) (b : Built) (case : ℕ) (loads : List Ends) →
+    IsStructureOf m b → EnclosesElements m b → AreLoads m case loads → EncloseLoads m case loads →
+    IsRealisation (system b (resting_laws b) loads) (lower_ends (system b (resting_laws b) loads))

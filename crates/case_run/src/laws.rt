@@ -1,4 +1,4 @@
-ghost use Rattle.case_run.specs.Soundness.{AnswerHolds, AnswersHold};
+ghost use Rattle.case_run.specs.Soundness.{AnswerHolds, AnswersHold, RealisationsExist};
 
 /// What the defined answers of a model's cases hold, whatever worked them out: every equilibrium of every realisation of the
 /// model's structure under the loads of a case lies within the bounds of a certified answer.
@@ -11,4 +11,13 @@ pub fn answers_hold()
     member_set::laws_keep_stretch();
     certificate::bounds_hold();
     structure::structures_are_stiff();
+}
+
+/// What shows that there are realisations to speak of: the lower ends of a model's structure and of the loads of a case are
+/// one.
+pub fn realisations_exist()
+    ensures { RealisationsExist }
+{
+    member_set::rest_is_equilibrium();
+    structure::structures_hold_numbers();
 }

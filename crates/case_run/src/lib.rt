@@ -9,4 +9,4 @@ mod shared;
 mod steps;
 
 pub use cases::answers;
-pub use laws::answers_hold;
+pub use laws::{answers_hold, realisations_exist};

@@ -26,5 +26,5 @@ returns c =
       written = subst (λ answers. c.in_ok-bytes.bytes.items ≡ report_of model answers) given written;
       ends = subst (λ answers. EndsWith answers c.ending_with-status.result) (c.deref.ensures.value ∙ given) c.ending_with-status.ensures;
       told = report_told c.printed_pairs_hold.ensures c.elements_have_their_members.ensures model found.answers.items c.in_ok-bytes.bytes.items c.requires.anchors found.ensures.answers.one_each
-          (c.answers_hold.ensures.all model text_order found.answers.items c.nodes-_nodes.ensures.model found.ensures.answers) written;
+          (c.answers_hold.ensures.all model text_order found.answers.items c.nodes-nodes.ensures.model found.ensures.answers) written;
     }
