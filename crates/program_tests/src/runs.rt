@@ -1,9 +1,9 @@
 //! What the program writes for words and a text, and how it ends.
-use flex_io::{Idle, SafeSink, SafeSource, Source, Status, StdSource, code, take_all};
+use flex_io::{Idle, SafeSink, SafeSource, Source, Status, StdSink, StdSource, code, take_all};
 use pipeflex_top::run;
 use std::alloc::{AllocError, Global};
 use std::io;
-use std::io::{ErrorKind, Read};
+use std::io::{ErrorKind, Read, Write};
 use std::process::Abort;
 use std::test::Fail;
 use std::thread::Threads;
@@ -119,6 +119,53 @@ node a -1 1 -1 1 -1 0 -1 1 0 1 -1 1
 node b -1 1 -1 1 -100 -99 -1 1 0 1 -1 1
 restraint A -1 1 -1 1 -695 -694 -1 1 347 348 -1 1
 restraint B -1 1 -1 1 -999306 -999305 -1 1 347 348 -1 1
+end
+";
+
+// The examples of the page of the mechanics and of the member table, with their stored answers.
+const STUB: &str = "\
+pipeflex 1
+# A pipe of 100 mm by 10 mm, built in at a wall, with 1 kN down at its free end 1 m away.
+material steel 200000 300 12000 7850
+section pipe steel 100000 10000 0 0
+node wall 0 0 0
+node end 1000000 0 0
+straight arm wall end pipe
+anchor A wall - -
+case pull 0 0 0 0 0 0
+force pull end 0 0 -1000000 0 0 0
+";
+
+const STUB_REPORT: &str = "\
+pipeflex report 1
+model 2 1 1 1 0
+case pull certified
+node wall -1 1 -1 1 -101 -99 -1 1 99 101 -1 1
+node end -1 1 -1 1 -575286 -575285 -1 1 862728 862729 -1 1
+restraint A -1 1 -1 1 -1000001 -999999 -1 1 999999 1000001 -1 1
+end
+";
+
+const RISER: &str = "\
+pipeflex 1
+material A106B 203400 300 11500 7850   # carbon steel
+section NPS6-40 A106B 168300 7110 0 0
+node P1 0 0 0
+node P2 0 0 6000000
+straight riser P1 P2 NPS6-40
+";
+
+const RISER_TABLE: &str = "\
+pipeflex members 1
+element riser straight 8
+kappa 1 127984442263019 127984442263020
+kappa 2 320364357560 320364357562
+kappa 3 416473664829 416473664830
+kappa 4 416473664829 416473664830
+kappa 5 416473664829 416473664830
+kappa 6 138824554943 138824554944
+kappa 7 138824554943 138824554944
+kappa 8 138824554943 138824554944
 end
 ";
 
@@ -248,7 +295,8 @@ fn answers_words(rt: HostRuntime) -> Result<(), Fail> {
 
 #[test]
 fn writes_tables_and_texts(rt: HostRuntime) -> Result<(), Fail> {
-    let rows: [Row; 6] = [
+    let rows: [Row; 7] = [
+        (&["members"], (RISER, ""), (Status::Done, RISER_TABLE, "")),
         // The table. A straight of a micrometre is too stiff.
         (
             &["members"],
@@ -354,7 +402,7 @@ fn refuses_one_more_line(rt: HostRuntime) -> Result<(), Fail> {
 
 #[test]
 fn analyses_one_straight(rt: HostRuntime) -> Result<(), Fail> {
-    let rows: [Row; 10] = [
+    let rows: [Row; 11] = [
         // Reports on one straight.
         (
             &["analyse"],
@@ -404,15 +452,17 @@ fn analyses_one_straight(rt: HostRuntime) -> Result<(), Fail> {
                 "",
             ),
         ),
+        (&["analyse"], (STUB, ""), (Status::Done, STUB_REPORT, "")),
+        // A pipe of a micrometre is too stiff.
         (
-            &["analyse", "--workers", "7"],
+            &["analyse"],
             (
-                STRAIGHT,
-                "anchor A a 2000000000000 -\ncase rest 0 0 0 0 0 0\n",
+                HEAD,
+                "node b 1 0 0\nstraight p a b s\nanchor A a - -\ncase rest 0 0 0 0 0 0\n",
             ),
             (
                 Status::Uncertified,
-                "pipeflex report 1\nmodel 2 1 1 1 0\ncase rest uncertified width matrix a ux\nend\n",
+                "pipeflex report 1\nmodel 2 1 1 1 0\ncase rest uncertified width element p\nend\n",
                 "",
             ),
         ),
@@ -524,6 +574,62 @@ fn ends_at_a_limit_and_at_a_fault_of_the_source(rt: HostRuntime) -> Result<(), F
         let mut source = StdSource::new(Breaking { is_begun: false });
         let fault = (status, "", message);
         ends(&rt, rt.alloc(), &line, &mut source, fault)?;
+    }
+    Ok(())
+}
+
+// Takes so many bytes, at most seven at a time, and fails then.
+#[derive(Drop)]
+struct Short {
+    held: Vec<u8>,
+    room: usize,
+}
+
+impl Write for Short {
+    fn write(&mut self, buf: &[u8]) -> io::Result<usize> {
+        let count = buf.len().min(self.room).min(7);
+        if count == 0 {
+            return Err(io::Error::from(ErrorKind::Other));
+        }
+        self.held.extend_from_slice(&buf[..count])?;
+        self.room -= count;
+        Ok(count)
+    }
+
+    fn flush(&mut self) -> io::Result<()> {
+        Ok(())
+    }
+}
+
+#[test]
+fn breaks_off_in_mid_stream(rt: HostRuntime) -> Result<(), Fail> {
+    for (words, room, whole) in [
+        (["members"], 1, TABLE),
+        (["members"], 100, TABLE),
+        (["analyse"], 60, CANTILEVER_REPORT),
+    ] {
+        let line = line_of(rt.alloc(), &words)?;
+        let mut text = STRAIGHT.as_bytes().to_vec(rt.alloc())?;
+        text.extend_from_slice(CANTILEVER.as_bytes())?;
+        let mut source = SafeSource::new(text);
+        let mut writer = Short {
+            held: Vec::new(rt.alloc()),
+            room,
+        };
+        let mut out = StdSink::new(&mut writer);
+        let mut err = SafeSink::new(rt.alloc(), 0)?;
+        let status = run(
+            &rt,
+            rt.alloc(),
+            &line,
+            &mut source,
+            &mut out,
+            &mut err,
+            &Idle,
+        );
+        assert!(rt; code(status) == code(Status::WriteFault));
+        assert!(rt; writer.held.len() == room);
+        assert!(rt; whole.as_bytes().starts_with(writer.held.as_slice()));
     }
     Ok(())
 }
