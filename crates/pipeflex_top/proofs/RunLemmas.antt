@@ -8,7 +8,8 @@ use Rattle.std.specs.Prelude.{slice_index}
 use Rattle.std.specs.Io.KnownBytes.{Consumes}
 use Rattle.flex_io.specs.declared.outcome.Status.{Status}
 use Rattle.flex_io.specs.declared.outcome.Status.TheVariants.{Done, Uncertified, Refused, Usage, ReadFault, WriteFault, NoMemory}
-use Rattle.model_text.specs.Grammar.{Refusal, longest_text, parsed}
+use Rattle.model_text.specs.Grammar.{Refusal, parsed}
+use Rattle.pipeflex_top.specs.declared.reply.TheConstants.{LIMIT}
 use Rattle.model_types.specs.Lists.{Lists}
 use Rattle.pipeflex_top.specs.declared.commands.Command.{Command}
 use Rattle.pipeflex_top.specs.declared.commands.Command.TheVariants.{Members, Echo, Analyse}
@@ -24,13 +25,13 @@ ReadsText-taken (Some text) (Some rest) bytes taken whole =
     ap Some (append_cancel_left (take 4194305 text) rest (drop 4194305 text) (ap (λ front. front ++ rest) (sym whole) ∙ sym taken ∙ sym (take-append-drop 4194305 text)))
 
 -- a text over the limit is refused
-parsed_long : (text : List ℕ) → longest_text < length text → parsed text ≡ Err (record { number = 1; line = 1 })
+parsed_long : (text : List ℕ) → LIMIT < length text → parsed text ≡ Err (record { number = 1; line = 1 })
 unfolding parsed
-parsed_long text long = rw (lt-ltb longest_text (length text) long) refl
+parsed_long text long = rw (lt-ltb LIMIT (length text) long) refl
 
 -- a text is judged as its bytes up to the one past the limit are
 parsed-taken : (text : List ℕ) → parsed (take 4194305 text) ≡ parsed text
-parsed-taken text = elim (cases_lt longest_text (length text)) [
+parsed-taken text = elim (cases_lt LIMIT (length text)) [
   | inl long ↦ parsed_long (take 4194305 text) (omega (arith, length-take 4194305 text)) ∙ sym (parsed_long text long)
   | inr short ↦ ap parsed (take_all 4194305 text (omega arith))
 ]
