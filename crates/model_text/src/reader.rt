@@ -234,9 +234,7 @@ fn take_line(reading: &mut Reading, line: &[u8]) -> Result<(), AddFault>
 fn is_header(line: &Words) -> bool
     ensures { result ≡ line_of.is_header line.now }
 {
-    line.count() == 2
-        && line.word(0) == b"pipeflex".as_slice()
-        && line.word(1) == b"1".as_slice()
+    line.count() == 2 && line.word(0) == b"pipeflex".as_slice() && line.word(1) == b"1".as_slice()
 }
 
 // Takes the record of a line that has words.

@@ -191,6 +191,7 @@ long_word word plain long = by (has_sign word) (digits_value 10 (digits_part wor
   where
     large : 10 ^ 18 ≤ digits_value 10 (digits_part word)
     large = value_large (digits_part word) (plain_parts _ plain) long
+
     by : (b : Bool) (v : ℕ) → has_sign word ≡ b → digits_value 10 (digits_part word) ≡ v → (n : ℤ) × IsLongNumber word n
     by true zero s e = absurd (omega (arith, large, e))
     by true (suc k) s e = (negsuc k, record { digits = digits_part word; plain = plain; value = e; form = signed_parts word s; long = omega (arith, large, e) })
