@@ -14,11 +14,11 @@ use Rattle.flex_interval.specs.declared.fault.IvFault.TheVariants.{Wide}
 use Rattle.member_set.specs.declared.members.Built.{Built}
 use Rattle.member_set.specs.declared.members.Law.{Law}
 use Rattle.member_set.specs.declared.members.Member.{Member}
-use Rattle.member_set.specs.Members.{IsBuilt, nothing, shape_at, member_of, members_at, row_count}
+use Rattle.member_set.specs.Members.{IsBuilt, nothing, shape_at, member_of, members_at, row_count, touches}
 use Rattle.member_set.specs.Realisation.{Stiffness, IsStiffnessOf, fraction, every_member, exact_entry, entry_unit}
 use Rattle.member_set.specs.Interval.{Outcome, in_turn}
 use Rattle.member_set.specs.Inclusion.{NumbersAreInRange, NodesSuffice}
-use Rattle.assembly.specs.Stiffness.{touches, member_entry, entry_term, entry_sum, limited_entry, upper_entry, stiffness_at, IsWithinRadius}
+use Rattle.assembly.specs.Stiffness.{member_entry, entry_term, entry_sum, limited_entry, upper_entry, stiffness_at, IsWithinRadius}
 use Rattle.assembly.specs.Inclusion.{MatricesHold}
 use Rattle.assembly.proofs.Fractions.{product_within, plus_within, nothing_within}
 use Rattle.assembly.proofs.Kept.{near_of}
