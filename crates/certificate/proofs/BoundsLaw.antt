@@ -8,10 +8,10 @@ use Rattle.flex_interval.specs.Fraction.{Within}
 use Rattle.int_laws.specs.Matrices.{squared_norm}
 use Rattle.member_set.specs.Members.{member_of, row_count, System}
 use Rattle.member_set.specs.Realisation.{fraction, force_fraction, force_in, displaced}
-use Rattle.member_set.specs.Interval.{Outcome, forces_of, residual_of}
+use Rattle.member_set.specs.Interval.{Outcome, found, forces_of, residual_of}
 use Rattle.member_set.specs.Inclusion.{ForcesHold, ResidualsHold}
 use Rattle.bound_laws.specs.Nearness.{StiffnessMatrixExists, EquilibriaAreNear, NearIsEnclosed, RootIsLength, RoundedRadiiAreEnough, NoNegativeStiffness, IsResidualLength, AreForcesWithin, AreResidualsWithin, greater_size, displacement_radius_of, force_radius_of}
-use Rattle.certificate.specs.Bounds.{found, residual_at, residual_length, BoundsHold}
+use Rattle.certificate.specs.Bounds.{residual_at, residual_length, BoundsHold}
 use Rattle.certificate.proofs.BoundsLemmas.{ordered}
 
 -- an outcome that is there is that of the interval found
