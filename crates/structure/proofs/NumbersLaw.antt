@@ -7,6 +7,7 @@ use Rattle.std.proofs.Math.ListN.{length-replicate}
 use Rattle.std.proofs.lemmas.Int.{ints}
 use Rattle.std.proofs.lemmas.List.{get_or_append_left, get_or-append-add, get_or-replicate}
 use Rattle.std.proofs.lemmas.List.Elements.{All-from_recursion, All-nil, All-append}
+use Rattle.std.proofs.lemmas.Bool.{cases_lt}
 use Rattle.int_laws.proofs.Sums.{int_sums}
 use Rattle.int_laws.proofs.Products.{le_of_mul, one-mul, mul_comm}
 use Rattle.int_laws.specs.Powers.{power}
@@ -32,11 +33,12 @@ use Rattle.member_pairs.specs.Span.{Span, square_of}
 use Rattle.pipe_element.specs.ExactStraight.{Mode, axial, torsion, bending, shear}
 use Rattle.pipe_element.specs.Straight.{mode_number}
 use Rattle.structure.specs.Anchors.{unit_along, anchor_member, kind_members, restraint_members}
-use Rattle.structure.specs.Elements.{element_at, span_of}
+use Rattle.structure.specs.Elements.{element_at, span_of, member_count_below, element_member_count}
 use Rattle.structure.specs.Enclosure.{EnclosesElements}
 use Rattle.structure.specs.Numbers.{HoldsNumbers, StructuresHoldNumbers}
 use Rattle.structure.specs.Structure.{element_members, model_members, IsStructureOf}
 use Rattle.structure.proofs.StiffLaw.{then_members-ok, whole-is}
+use Rattle.structure.proofs.MemberLemmas.{shape-count}
 use Rattle.structure.proofs.PlacedLaw.{elements-count}
 
 -- the ends are in order
@@ -151,14 +153,19 @@ restraints_hold (r ∷ rs) = All-append HoldsNumbers (restraint_members r) (flat
 
 -- ---- a structure's
 
-element_holds : (m : Lists) (b : Built) → EnclosesElements m b → (k : ℕ) → k < 8 * length m.elements → HoldsNumbers (member_of b k)
-element_holds m b encloses k below =
-    let mode = mode_at (k % 8) (omega arith) in
-    let l = length_exists (span_of m (element_at m (k / 8))) in
-    let pi_order : IsOrdered pi_ends = omega (arith, ints) in
-    let own = encloses (k / 8) _ l.0 mode.0 (omega arith) (lower_within pi_ends pi_order) l.1 in
-    let place : 8 * (k / 8) + mode_number mode.0 ≡ k = omega (arith, mode.1) in
-    subst (λ (i : ℕ). HoldsNumbers (member_of b i)) place (pair_holds _ _ _ own)
+element_holds : (m : Lists) (b : Built) → EnclosesElements m b → (count : ℕ) → count ≤ length m.elements → (k : ℕ) → k < member_count_below m count → HoldsNumbers (member_of b k)
+element_holds m b encloses zero few k below = absurd (omega arith)
+element_holds m b encloses (suc count) few k below =
+    elim (cases_lt k (member_count_below m count)) [
+      | inl earlier ↦ element_holds m b encloses count (omega (arith, few)) k earlier
+      | inr here ↦
+          let mode = mode_at (k - member_count_below m count) (omega (arith, here, below, shape-count (element_at m count).shape)) in
+          let l = length_exists (span_of m (element_at m count)) in
+          let pi_order : IsOrdered pi_ends = omega (arith, ints) in
+          let own = encloses count _ l.0 mode.0 (omega (arith, few)) (lower_within pi_ends pi_order) l.1 in
+          let place : member_count_below m count + mode_number mode.0 ≡ k = omega (arith, mode.1, here) in
+          subst (λ (i : ℕ). HoldsNumbers (member_of b i)) place (pair_holds _ _ _ own)
+    ]
 
 pub structures_hold_numbers : StructuresHoldNumbers
 unfolding model_members
@@ -166,9 +173,8 @@ structures_hold_numbers m b structure encloses k inside =
     let step = then_members-ok (element_members m (length m.elements)) (λ members. Ok (members ++ flat_map restraint_members m.restraints)) b.members structure.members in
     let whole = whole-is step.0 (flat_map restraint_members m.restraints) b.members step.2 in
     let long = elements-count m (length m.elements) step.0 step.1 in
-    let side : (k < 8 * length m.elements) ⊎ (8 * length m.elements ≤ k) = search arith in
-    elim side [
-      | inl below ↦ element_holds m b encloses k below
+    elim (cases_lt k (element_member_count m)) [
+      | inl below ↦ element_holds m b encloses (length m.elements) (omega arith) k below
       | inr past ↦
           let rest = k - length step.0 in
           let place : length step.0 + (k - length step.0) ≡ k = omega (arith, long) in

@@ -10,7 +10,7 @@ use Rattle.member_pairs.specs.Lengths.{IsLengthWithin}
 use Rattle.member_pairs.specs.Pairs.{EnclosesMember}
 use Rattle.pipe_element.specs.ExactStraight.{Mode, stiffness_of, shape_of}
 use Rattle.pipe_element.specs.Straight.{EnclosesStraight, mode_number}
-use Rattle.structure.specs.Elements.{members_of_element, element_at, span_of, tube_of_element}
+use Rattle.structure.specs.Elements.{members_of_element, element_at, span_of, tube_of_element, member_count_below}
 
 -- where an element has members, each of them holds its exact stiffness and shape vector, for every pi and every length
 -- within their enclosures
@@ -22,9 +22,9 @@ EnclosesElement m e =
 abbrev pub EachEncloses : Lists → Type 0
 EachEncloses m = (n : ℕ) → n < length m.elements → EnclosesElement m (element_at m n)
 
--- in a structure the members from the first of an element on, member 8 n for element n, hold the exact stiffnesses and shape
--- vectors of the element, for every pi and every length within their enclosures
+-- in a structure the members from the first of an element on, behind those of the elements before it, hold the exact
+-- stiffnesses and shape vectors of the element, for every pi and every length within their enclosures
 abbrev pub EnclosesElements : Lists → Built → Type 0
 EnclosesElements m b = (n : ℕ) (pi l : Fraction) (mode : Mode) → n < length m.elements → Within pi_ends pi → IsLengthWithin (span_of m (element_at m n)) l →
-    EnclosesMember (member_of b (8 * n + mode_number mode))
+    EnclosesMember (member_of b (member_count_below m n + mode_number mode))
     (stiffness_of (tube_of_element m (element_at m n)) (span_of m (element_at m n)) pi l mode) (shape_of (span_of m (element_at m n)) l mode)
