@@ -100,7 +100,7 @@ straight-count e a b s m members is =
     let w = or_wide-ok (shapes_of way l.0) (limited e k.0) members k.1 in
     limited-count e k.0 w.0 members w.1
 
-shape-count : (s : Shape) → shape_member_count s ≡ 8
+pub shape-count : (s : Shape) → shape_member_count s ≡ 8
 shape-count Straight = refl
 
 pub members-count : (m : Lists) (n : ℕ) (more : List Member) → members_of_element m (element_at m n) ≡ Ok more → length more ≡ shape_member_count (element_at m n).shape

@@ -18,7 +18,7 @@ use Rattle.structure.specs.Anchors.{restraint_members}
 use Rattle.structure.specs.Elements.{members_of_element, element_at, span_of, tube_of_element}
 use Rattle.structure.specs.Enclosure.{EnclosesElement, EachEncloses, EnclosesElements}
 use Rattle.structure.specs.Structure.{with_element, element_members, model_members, IsStructureOf}
-use Rattle.structure.proofs.MemberLemmas.{members-count}
+use Rattle.structure.proofs.MemberLemmas.{members-count, shape-count}
 use Rattle.structure.proofs.StiffLaw.{then_members-ok, with_element-ok, whole-is}
 
 pub elements-count : (m : Lists) (n : ℕ) (members : List Member) → element_members m n ≡ Ok members → length members ≡ 8 * n
@@ -27,7 +27,7 @@ elements-count m (suc n) members is =
     let step = then_members-ok (element_members m n) (with_element n (members_of_element m (element_at m n))) members is in
     let own = with_element-ok n (members_of_element m (element_at m n)) step.0 members step.2 in
     let before = elements-count m n step.0 step.1 in
-    let eight = members-count m n own.0 own.1 in
+    let eight = members-count m n own.0 own.1 ∙ shape-count (element_at m n).shape in
     omega (arith, ap length own.2, length-append step.0 own.0, before, eight)
 
 -- the members of the n-th of N elements stand from 8 n on
