@@ -45,7 +45,8 @@ use Rattle.certificate.specs.declared.fault.EncloseFault.TheVariants as enclosur
 use Rattle.case_run.specs.declared.fault.CaseFault.{CaseFault}
 use Rattle.case_run.specs.declared.fault.CaseFault.TheVariants.{Because, NoMemory}
 use Rattle.case_run.specs.Causes.{Plan, resting_laws, IsFactorAt}
-use Rattle.case_run.specs.Certified.{TellsBounds, bounds_of, element_member_count}
+use Rattle.case_run.specs.Certified.{TellsBounds, bounds_of}
+use Rattle.structure.specs.Elements.{element_member_count}
 use Rattle.case_run.specs.Faults.{build_fault, assemble_fault, load_fault, scalar_fault, solve_fault, enclose_fault, reason_told}
 use Rattle.case_run.specs.Answers.{Reason, because, element_reason, matrix_reason, breakdown_reason, margin_reason, load_reason, turns_reason, bounds_reason, factor_at, margin_at, margin_of, Base, base, base_of, enclosure_in, answer_with, answers_of}
 use Rattle.case_run.proofs.Searching.{listed-is}

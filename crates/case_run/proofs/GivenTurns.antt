@@ -20,7 +20,7 @@ use Rattle.lists.specs.Order.{IsOrder}
 use Rattle.lists.specs.Results.{and_then}
 use Rattle.lists.specs.Rows.{freedom_at, position_of}
 use Rattle.lists.specs.Search.{any_below, greatest_to}
-use Rattle.factor_data.proofs.OrderLemmas.{position-below, row-of_position, row-below, position-of_row}
+use Rattle.lists.proofs.RowLemmas.{position-below, row-of_position, row-below, position-of_row}
 use Rattle.solve.specs.Numerators.{past}
 use Rattle.solve.specs.Substitution.{at, Numerator, forward_numerator, backward_numerator, IsForwardBelow, IsForward, ForwardBreaks, forward_size, IsBackwardFrom, IsBackward, BackwardBreaks}
 use Rattle.solve.specs.Refinement.{Problem, size_of, problem_residual, AreMiddles, HasNoResidual, HasDigits, IsScaling, HasNoRoom, forward_side, backward_side, IsMoved, MovesTooFar, IsTurn, TurnBreaks, no_residual, no_room, forward_broad, backward_broad, too_far, LeadTo, IsTooWide}

@@ -1,5 +1,6 @@
 ghost use Rattle.std.specs.Prelude.{◌≡◌, ◌<◌, ◌≤◌, ℕ, length, [], IfOk, IfErr, ℤ, pos, ◌≤ℤ◌, ◌^◌};
 ghost use Rattle.member_set.specs.Members.{IsBuilt, built_nodes, AreStiff};
+ghost use Rattle.sym_blocks.specs.Matrix.{entry};
 ghost use Rattle.assembly.specs.Stiffness.{AreAssembled, matrices_of};
 ghost use Rattle.elimination.specs.Elimination.{AreParents};
 ghost use Rattle.lists.specs.Order.{IsOrder};
