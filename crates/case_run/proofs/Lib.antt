@@ -13,3 +13,4 @@ pub mod GivenStructure
 pub mod Chained
 pub mod SoundnessLaw
 pub mod ExistenceLaw
+pub mod Fits

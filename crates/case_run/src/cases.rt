@@ -10,6 +10,7 @@ ghost use Rattle.case_run.specs.Steps.{Names};
 ghost use Rattle.elimination.specs.Elimination.{AreParents};
 ghost use Rattle.lists.specs.Order.{IsOrder};
 ghost use Rattle.load_vectors.specs.Loads.{HasForcesAlone, case_at};
+ghost use Rattle.model_types.specs.Fits.{AreAnswersOf};
 ghost use Rattle.structure.specs.Anchors.{HasAnchorsAlone};
 ghost use Rattle.structure.specs.Elements.{element_member_count};
 
@@ -39,7 +40,12 @@ pub fn answers(
     requires parents_later { AreParents parents.now (length order.now) }
     ensures given { IfOk result (λ answers. answers.items ≡ answers_of m.now (plan order.now parents.now)) }
     ensures answers { IfOk result (λ answers. AreCaseAnswers m.now (plan order.now parents.now) answers.items) }
+    ensures fit { IfOk result (λ answers. AreAnswersOf m.now answers.items) }
 {
+    // The laws by which the answers fit the model.
+    bound_laws::passed_test_is_proof();
+    certificate::bounds_are_limited();
+    structure::models_have_their_members();
     // What every model keeps: it has a node, and not many.
     let _nodes = m.nodes();
     match share(alloc, m, order, parents) {

@@ -1,6 +1,6 @@
 //! Whole reports, as they are worked out by hand from the mechanics of a pipe of one metre.
 ghost use Rattle.std.specs.Prelude.{◌≡◌, length, IsTrue, All};
-ghost use Rattle.report.specs.Fits.{AreModest, FitsModel, IsCauseIn, IsGuess, IsModest};
+ghost use Rattle.model_types.specs.Fits.{AreModest, FitsModel, IsCauseIn, IsGuess, IsGuessFor, IsModest};
 ghost use Rattle.model_types.specs.MemberCounts.{restraints_member_count};
 
 use crate::makers::model;
@@ -51,6 +51,15 @@ fn is_candidate(m: &Model, u: &[i128]) -> bool
     ensures { IsTrue result → IsGuess m.now u.now }
 {
     u.len() % 6 == 0 && u.len() / 6 == m.nodes().len() && are_all_modest(u)
+}
+
+fn is_beside(m: &Model, cause: &Cause, guess: &[i128]) -> bool
+    ensures { IsTrue result → IsGuessFor m.now cause.now guess.now }
+{
+    match cause {
+        Cause::State { .. } => is_candidate(m, guess),
+        _ => guess.is_empty(),
+    }
 }
 
 // The loads of a model with an anchor and no other restraint.
@@ -112,7 +121,7 @@ fn uncertified(
     ensures { FitsModel m.now result }
 {
     assert!(rt; is_cause_in(m, &cause));
-    assert!(rt; guess.is_empty() || is_candidate(m, guess));
+    assert!(rt; is_beside(m, &cause, guess));
     let guess = Sequence::new(Vec::from_slice(alloc, guess).expect(rt, "memory"));
     CaseAnswer::Uncertified { cause, guess }
 }

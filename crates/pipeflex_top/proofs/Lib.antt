@@ -1,6 +1,5 @@
 mod Determined
-mod Fits
-mod Outcomes
 mod RunLemmas
 mod TableLemmas
+mod TextOrder
 mod Told

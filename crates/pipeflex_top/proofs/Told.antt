@@ -4,7 +4,8 @@ use Rattle.std.proofs.lemmas.List.{get_or-map}
 use Rattle.std.proofs.lemmas.List.Sums.{sum_by_more_le}
 use Rattle.std.proofs.lemmas.Option.{slice_get-get_or}
 use Rattle.std.specs.List.{flat_map}
-use Rattle.structure.specs.Elements.{element_member_count, ElementsHaveTheirMembers}
+use Rattle.structure.specs.Elements.{element_member_count}
+use Rattle.structure.specs.Structure.{ModelsHaveTheirMembers}
 use Rattle.case_run.specs.Equilibria.{AreWithin, OfEquilibria, HoldsAlways, HoldAlways}
 use Rattle.load_vectors.specs.Loads.{case_at, no_case}
 use Rattle.member_set.specs.Realisation.{force_in, fraction, force_fraction}
@@ -20,7 +21,6 @@ use Rattle.report.specs.Rounding.{PrintedHolds}
 use Rattle.structure.specs.Anchors.{HasAnchorsAlone}
 use Rattle.text_words.specs.Fields.{line}
 use Rattle.pipeflex_top.specs.Told.{ArePaired, IsCaseText, certified, uncertified, IsReportText, node_displacements, restraint_loads}
-use Rattle.pipeflex_top.proofs.Fits.{model_has}
 use Rattle.model_types.specs.MemberCounts.{restraint_member_count, restraints_member_count}
 
 -- ---- a certified case
@@ -42,18 +42,18 @@ load_inside (r ∷ restraints) n f inside few =
     let own : load_count_of (r ∷ restraints) n ≡ count (get_or (r ∷ restraints) n r) = get_or-map count (r ∷ restraints) n r 0 inside in
     omega (arith, own, few, sum_by_more_le count (r ∷ restraints) n r inside)
 
-restraints_paired : PrintedHolds → ElementsHaveTheirMembers → (m : Lists) (case : ℕ) (u loads : List Bounds) → HasAnchorsAlone m
+restraints_paired : PrintedHolds → ModelsHaveTheirMembers → (m : Lists) (case : ℕ) (u loads : List Bounds) → HasAnchorsAlone m
     → OfEquilibria m case (λ r exact. AreWithin r exact (element_member_count m) u loads) → ArePaired m case (restraint_loads m) (restraint_bounds m.restraints loads)
 restraints_paired holds counts m case u loads anchors always = λ b case_loads r exact structure loaded realised balanced n f restraint own.
     let within = always b case_loads r exact structure loaded realised balanced in
     let k = loads_before m.restraints n + f in
     let among : k < restraints_member_count m.restraints = load_inside m.restraints n f restraint own in
-    let members = model_has counts m b.members anchors structure.members in
+    let members = counts m b.members anchors structure.members in
     let inside : element_member_count m + k < r.stiffness.members = omega (arith, realised.all_members, members, among) in
     holds (pos 1000) (pos (2 ^ 40)) (omega arith) (omega arith) (bounds_at loads k) (force_fraction r.stiffness.denominator (force_in r exact (element_member_count m + k))) (within.load k inside)
 
 -- the lines of an answer are the text of its case
-answer_told : PrintedHolds → ElementsHaveTheirMembers → (m : Lists) (case : ℕ) (a : CaseAnswer) → HasAnchorsAlone m → HoldsAlways m case a
+answer_told : PrintedHolds → ModelsHaveTheirMembers → (m : Lists) (case : ℕ) (a : CaseAnswer) → HasAnchorsAlone m → HoldsAlways m case a
     → IsCaseText m case (answer_lines m (case_at m case) a)
 answer_told holds counts m case (Certified u loads states) anchors always =
     let last = restraint_lines m.restraints loads in
@@ -91,7 +91,7 @@ get_or-texts m (x ∷ cases) (y ∷ answers) zero c a same inside = refl
 get_or-texts m (x ∷ cases) (y ∷ answers) (suc case) c a same inside = get_or-texts m cases answers case c a (omega (arith, same)) (omega (arith, inside))
 
 -- the report of answers that hold tells what holds
-pub report_told : PrintedHolds → ElementsHaveTheirMembers → (m : Lists) (answers : List CaseAnswer) (output : List ℕ) → HasAnchorsAlone m
+pub report_told : PrintedHolds → ModelsHaveTheirMembers → (m : Lists) (answers : List CaseAnswer) (output : List ℕ) → HasAnchorsAlone m
     → length answers ≡ length m.cases → HoldAlways m answers → output ≡ report_of m answers → IsReportText m output
 report_told holds counts m answers output anchors one_each always written =
     let none : CaseAnswer = Uncertified causes.Turns [] in

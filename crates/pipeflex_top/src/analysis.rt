@@ -15,10 +15,8 @@ pub fn analysis(alloc: Global, model: &Model) -> Result<Written, NoMemory>
     requires { IsOneStraight model.now }
     ensures { IfOk result (λ written. IsReport model.now written.bytes.items written.status) }
 {
-    // The laws by which the answers fit the model, and of what they and a printed pair hold.
-    structure::elements_have_their_members();
-    bound_laws::passed_test_is_proof();
-    certificate::bounds_are_limited();
+    // The laws of what the answers and a printed pair hold.
+    structure::models_have_their_members();
     case_run::answers_hold();
     report::printed_pairs_hold();
     // What every model keeps: its rules.

@@ -7,7 +7,7 @@ use Rattle.int_laws.specs.Division.{floor_of, ceil_of}
 use Rattle.int_laws.proofs.Products.{mul_positive, le_mul, mul_comm, mul_right_comm, neg-mul}
 use Rattle.int_laws.proofs.DivisionLemmas.{floor_of-is, ceil_of-is, below_divided, above_divided}
 use Rattle.flex_interval.specs.Fraction.{scaled}
-use Rattle.report.specs.Fits.{IsModest}
+use Rattle.model_types.specs.Fits.{IsModest}
 use Rattle.report.specs.Report.{printed}
 use Rattle.report.specs.Rounding.{IsScale, PrintedHolds, ends_of_pair}
 

@@ -1,4 +1,3 @@
-pub mod Fits
 pub mod Report
 pub mod Rounding
 pub mod Words

@@ -1,6 +1,6 @@
 ghost use Rattle.std.specs.Prelude.{◌≡◌, ◌<◌, [], ◌∷◌, ◌++◌, length, OnErr, OnOk};
 ghost use Rattle.std.specs.Io.{StartsWith};
-ghost use Rattle.report.specs.Fits.{IsCauseIn};
+ghost use Rattle.model_types.specs.Fits.{IsCauseIn};
 ghost use Rattle.report.specs.Report.{cause_words, element_name, freedom_word, node_name, restraint_name, side_word};
 ghost use Rattle.report.specs.Words.{spaced};
 

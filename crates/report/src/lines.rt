@@ -1,7 +1,7 @@
 ghost use Rattle.std.specs.Prelude.{◌≡◌, ◌++◌, All, OnErr, OnOk, IfOk};
 ghost use Rattle.std.specs.Io.{StartsWith};
 ghost use Rattle.std.specs.List.{flat_map};
-ghost use Rattle.report.specs.Fits.{AreAnswersOf, FitsModel, IsCauseIn, IsModest};
+ghost use Rattle.model_types.specs.Fits.{AreAnswersOf, FitsModel, IsCauseIn, IsGuessFor};
 ghost use Rattle.report.specs.Report.{answer_lines, candidate_lines, case_lines, count_words, head_lines, report_of, uncertified_words};
 ghost use Rattle.text_words.specs.Fields.{line};
 
@@ -111,7 +111,7 @@ fn push_candidate(
     cause: &Cause,
     guess: &[i128],
 ) -> Result<(), NoMemory>
-    requires { All IsModest guess.now }
+    requires { IsGuessFor m.now cause.now guess.now }
     ensures written { OnOk result (out.new.items ≡ out.old.items ++ flat_map line (candidate_lines m.now cause.now guess.now)) }
     ensures kept { OnErr result (StartsWith out.new.items out.old.items) }
 {

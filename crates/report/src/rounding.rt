@@ -1,6 +1,6 @@
 ghost use Rattle.std.specs.Prelude.{◌≡◌, ◌*ℤ◌};
 ghost use Rattle.int_laws.specs.Division.{ceil_of, floor_of, nearest_of};
-ghost use Rattle.report.specs.Fits.{IsModest};
+ghost use Rattle.model_types.specs.Fits.{IsModest};
 ghost use Rattle.report.specs.Rounding.{IsScale, PrintedHolds};
 
 use flex_num::{ceil_div, floor_div, nearest_div};

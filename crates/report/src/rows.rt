@@ -1,7 +1,7 @@
 ghost use Rattle.std.specs.Prelude.{◌≡◌, ◌*◌, ◌∷◌, ◌++◌, codes, map, length, All, OnErr, OnOk};
 ghost use Rattle.std.specs.Io.{StartsWith};
 ghost use Rattle.std.specs.List.{flat_map};
-ghost use Rattle.report.specs.Fits.{AreModest, IsModest};
+ghost use Rattle.model_types.specs.Fits.{AreModest, IsModest};
 ghost use Rattle.report.specs.Report.{guess_lines, guess_word, node_lines, pair, restraint_lines};
 ghost use Rattle.model_types.specs.MemberCounts.{restraints_member_count};
 ghost use Rattle.report.specs.Rounding.{IsScale};

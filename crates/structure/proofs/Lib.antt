@@ -4,3 +4,4 @@ pub mod BuildingLemmas
 pub mod StiffLaw
 pub mod PlacedLaw
 pub mod NumbersLaw
+pub mod CountLaw

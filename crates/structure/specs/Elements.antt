@@ -1,5 +1,5 @@
 -- The members of a model's elements.
-use Rattle.std.specs.Prelude.{ℕ, zero, suc, ◌+◌, ◌≡◌, [], pos, List, length, Result, Ok}
+use Rattle.std.specs.Prelude.{ℕ, zero, suc, ◌+◌, [], pos, List, length, Result}
 use Rattle.std.specs.List.{slice_index_or}
 use Rattle.flex_interval.specs.declared.fault.Wide.{Wide}
 use Rattle.member_set.specs.declared.members.Member.{Member}
@@ -66,7 +66,3 @@ member_count_below m (suc n) = member_count_below m n + shape_member_count (elem
 -- how many members the elements have, before those of the restraints
 abbrev pub element_member_count : Lists → ℕ
 element_member_count m = member_count_below m (length m.elements)
-
--- an element has as many members as its shape says
-abbrev pub ElementsHaveTheirMembers : Type 0
-ElementsHaveTheirMembers = (m : Lists) (n : ℕ) (members : List Member) → members_of_element m (element_at m n) ≡ Ok members → length members ≡ shape_member_count (element_at m n).shape

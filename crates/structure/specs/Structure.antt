@@ -1,5 +1,5 @@
 -- The structure of a model: its members, element by element and then restraint by restraint.
-use Rattle.std.specs.Prelude.{◌≡◌, ℕ, zero, suc, ◌^◌, ◌<◌, List, [], ◌++◌, length, slice_index_or, filter, Result, Ok, Err, pos, ◌≤ℤ◌, ◌<ℤ◌}
+use Rattle.std.specs.Prelude.{◌≡◌, ℕ, zero, suc, ◌+◌, ◌^◌, ◌<◌, List, [], ◌++◌, length, slice_index_or, filter, Result, Ok, Err, pos, ◌≤ℤ◌, ◌<ℤ◌}
 use Rattle.std.specs.List.{flat_map, range_with_len}
 use Rattle.lists.specs.Listed.{listed}
 use Rattle.lists.specs.Results.{and_then}
@@ -9,8 +9,9 @@ use Rattle.member_set.specs.declared.members.Built.{Built}
 use Rattle.member_set.specs.Members.{IsBuilt, member_of, built_nodes, no_member, touches, AreStiff}
 use Rattle.model_types.specs.Lists.{Lists}
 use Rattle.model_types.specs.Rules.{IsModel}
-use Rattle.structure.specs.Elements.{members_of_element, element_at}
-use Rattle.structure.specs.Anchors.{restraint_members}
+use Rattle.model_types.specs.MemberCounts.{restraints_member_count}
+use Rattle.structure.specs.Elements.{members_of_element, element_at, element_member_count}
+use Rattle.structure.specs.Anchors.{restraint_members, HasAnchorsAlone}
 
 -- members, or the number of an element that leaves its limits
 abbrev pub Members : Type 0
@@ -58,3 +59,9 @@ pub record IsStructureOf (m : Lists) (b : Built) : Type 0 where
 -- the members of every structure of a model are stiff
 abbrev pub StructuresAreStiff : Type 0
 StructuresAreStiff = (m : Lists) (b : Built) → IsModel m → IsStructureOf m b → AreStiff b
+
+-- a model that anchors alone hold has the members of its elements, as many as their shapes say, and then one for each load of
+-- its restraints
+abbrev pub ModelsHaveTheirMembers : Type 0
+ModelsHaveTheirMembers = (m : Lists) (members : List Member) → HasAnchorsAlone m → model_members m ≡ Ok members →
+    length members ≡ element_member_count m + restraints_member_count m.restraints

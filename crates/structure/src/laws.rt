@@ -1,10 +1,9 @@
-ghost use Rattle.structure.specs.Elements.{ElementsHaveTheirMembers};
 ghost use Rattle.structure.specs.Numbers.{StructuresHoldNumbers};
-ghost use Rattle.structure.specs.Structure.{StructuresAreStiff};
+ghost use Rattle.structure.specs.Structure.{ModelsHaveTheirMembers, StructuresAreStiff};
 
-/// An element whose members are within their limits has as many of them as its shape says.
-pub fn elements_have_their_members()
-    ensures { ElementsHaveTheirMembers }
+/// A model that anchors alone hold has as many members as the shapes of its elements and the kinds of its restraints say.
+pub fn models_have_their_members()
+    ensures { ModelsHaveTheirMembers }
 {}
 
 /// The members of every structure of a model are stiff, by their definition.

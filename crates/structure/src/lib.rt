@@ -11,4 +11,4 @@ mod touching;
 pub use building::build;
 pub use elements::{element_member_count, element_members};
 pub use fault::BuildFault;
-pub use laws::{elements_have_their_members, structures_are_stiff, structures_hold_numbers};
+pub use laws::{models_have_their_members, structures_are_stiff, structures_hold_numbers};

@@ -1,6 +1,6 @@
 use Rattle.std.proofs.Common.{ℕ, ◌<◌, get_or}
 use Rattle.model_types.specs.declared.answers.Bounds.{Bounds}
-use Rattle.report.specs.Fits.{IsModest}
+use Rattle.model_types.specs.Fits.{IsModest}
 use Rattle.model_tests.proofs.reports.are_modest.Given as goal
 
 abbrev pub invariant-loop-b : goal.invariant-loop-b

@@ -2,7 +2,7 @@ use Rattle.std.proofs.Common.{◌++◌}
 use Rattle.std.proofs.lemmas.List.Elements.{All-drop}
 use Rattle.std.specs.List.{flat_map}
 use Rattle.text_words.specs.Fields.{line}
-use Rattle.report.specs.Fits.{IsModest}
+use Rattle.model_types.specs.Fits.{IsModest}
 use Rattle.report.specs.Report.{guess_lines}
 use Rattle.report.proofs.LineLemmas.{still_starts}
 use Rattle.report.proofs.RowLemmas.{guess_written}

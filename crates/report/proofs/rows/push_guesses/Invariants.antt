@@ -2,7 +2,7 @@ use Rattle.std.proofs.Common.{◌≡◌, ◌++◌, drop}
 use Rattle.std.specs.Io.{StartsWith}
 use Rattle.std.specs.List.{All, flat_map}
 use Rattle.text_words.specs.Fields.{line}
-use Rattle.report.specs.Fits.{IsModest}
+use Rattle.model_types.specs.Fits.{IsModest}
 use Rattle.report.specs.Report.{guess_lines}
 use Rattle.report.proofs.rows.push_guesses.Given as goal
 

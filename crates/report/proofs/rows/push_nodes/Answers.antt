@@ -4,7 +4,7 @@ use Rattle.std.specs.List.{flat_map}
 use Rattle.lists.specs.Listed.{listed}
 use Rattle.text_words.specs.Fields.{line}
 use Rattle.model_types.specs.declared.answers.Bounds.{Bounds}
-use Rattle.report.specs.Fits.{IsModest}
+use Rattle.model_types.specs.Fits.{IsModest}
 use Rattle.report.specs.Report.{bounds_line, node_bounds, node_key}
 use Rattle.report.proofs.RowLemmas.{node_written}
 use Rattle.report.proofs.rows.push_nodes.Goals as goal

@@ -2,7 +2,7 @@ use Rattle.std.proofs.Common.{◌≡◌, ◌*◌, ◌≤◌, ◌++◌, length, d
 use Rattle.std.specs.List.{flat_map}
 use Rattle.lists.specs.Listed.{listed}
 use Rattle.text_words.specs.Fields.{line}
-use Rattle.report.specs.Fits.{AreModest}
+use Rattle.model_types.specs.Fits.{AreModest}
 use Rattle.report.specs.Report.{bounds_line, node_bounds, node_key}
 use Rattle.report.proofs.rows.push_nodes.Given as goal
 

@@ -4,7 +4,7 @@ use Rattle.std.specs.List.{flat_map}
 use Rattle.lists.specs.Listed.{listed}
 use Rattle.text_words.specs.Fields.{line}
 use Rattle.model_types.specs.declared.answers.Bounds.{Bounds}
-use Rattle.report.specs.Fits.{IsModest}
+use Rattle.model_types.specs.Fits.{IsModest}
 use Rattle.report.specs.Report.{bounds_line, loads_before, load_count_of, restraint_bounds, restraint_key}
 use Rattle.report.proofs.RowLemmas.{loads_more, restraint_written}
 use Rattle.model_types.specs.MemberCounts.{restraints_member_count, restraint_member_count}

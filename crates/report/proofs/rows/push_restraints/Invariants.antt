@@ -2,7 +2,7 @@ use Rattle.std.proofs.Common.{◌≡◌, ◌≤◌, ◌++◌, length, drop}
 use Rattle.std.specs.List.{flat_map}
 use Rattle.lists.specs.Listed.{listed}
 use Rattle.text_words.specs.Fields.{line}
-use Rattle.report.specs.Fits.{AreModest}
+use Rattle.model_types.specs.Fits.{AreModest}
 use Rattle.report.specs.Report.{bounds_line, loads_before, load_count_of, restraint_bounds, restraint_key}
 use Rattle.model_types.specs.MemberCounts.{restraints_member_count}
 use Rattle.report.proofs.rows.push_restraints.Given as goal

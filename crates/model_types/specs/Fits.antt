@@ -1,5 +1,5 @@
 -- Which answers are those of a model's cases.
-use Rattle.std.specs.Prelude.{◌≡◌, ◌⊎◌, ℕ, ◌*◌, ◌^◌, ◌<◌, List, length, All, ℤ, unsigned_abs, ⊤}
+use Rattle.std.specs.Prelude.{◌≡◌, ℕ, ◌*◌, ◌^◌, ◌<◌, List, [], length, All, ℤ, unsigned_abs, ⊤}
 use Rattle.model_types.specs.Lists.{Lists}
 use Rattle.model_types.specs.declared.answers.Bounds.{Bounds}
 use Rattle.model_types.specs.declared.answers.Cause.{Cause}
@@ -33,11 +33,17 @@ pub record IsGuess (m : Lists) (u : List ℤ) : Type 0 where
   pub one_each : length u ≡ 6 * length m.nodes
   pub modest : All IsModest u
 
--- the answer is one of a case of the model: a bound for each row and for each load of a restraint, or a cause
+-- what stands beside a cause: the candidate where the cause is `state`, nothing beside any other
+abbrev pub IsGuessFor : Lists → Cause → List ℤ → Type 0
+IsGuessFor m (causes.State restraint minus) guess = IsGuess m guess
+IsGuessFor m _ guess = guess ≡ []
+
+-- the answer is one of a case of the model: a bound for each row and for each load of a restraint; or a cause, and what
+-- stands beside it
 abbrev pub FitsModel : Lists → CaseAnswer → Type 0
 FitsModel m (Certified u loads states) =
     (length u ≡ 6 * length m.nodes) × (length loads ≡ restraints_member_count m.restraints) × AreModest u × AreModest loads
-FitsModel m (Uncertified cause guess) = IsCauseIn m cause × ((length guess ≡ 0) ⊎ IsGuess m guess)
+FitsModel m (Uncertified cause guess) = IsCauseIn m cause × IsGuessFor m cause guess
 
 -- one answer for each case
 pub record AreAnswersOf (m : Lists) (answers : List CaseAnswer) : Type 0 where
