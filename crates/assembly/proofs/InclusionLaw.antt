@@ -1,6 +1,6 @@
 -- What the enclosure of an entry holds, by its definition.
-use Rattle.std.proofs.Common.{◌≡◌, ℕ, zero, suc, ◌+◌, ◌/◌, ◌<◌, ◌≤◌, ◌^◌, ◌⊎◌, inl, inr, Bool, true, false, refl, sym, subst, ap, ◌∙◌, arith, List, length, slice_index, Ok, Err, ℤ, pos, ◌+ℤ◌, ◌*ℤ◌, ◌<ℤ◌, unsigned_abs, if◌then◌else◌}
-use Rattle.std.specs.Prelude.{nat_lt}
+use Rattle.std.proofs.Common.{◌≡◌, Option, Some, None, ℕ, zero, suc, ◌+◌, ◌/◌, ◌<◌, ◌≤◌, ◌^◌, ◌⊎◌, inl, inr, Bool, true, false, refl, sym, subst, ap, ◌∙◌, arith, List, length, slice_index, Ok, Err, ℤ, pos, ◌+ℤ◌, ◌*ℤ◌, ◌<ℤ◌, unsigned_abs, if◌then◌else◌}
+use Rattle.std.specs.Prelude.{is_err, nat_lt}
 use Rattle.int_laws.specs.Sums.{sum_below}
 use Rattle.int_laws.proofs.Sums.{int_sums}
 use Rattle.int_laws.proofs.Products.{between_zeros}
@@ -9,16 +9,18 @@ use Rattle.flex_interval.specs.Ends.{Ends}
 use Rattle.flex_interval.specs.Fraction.{Within}
 use Rattle.flex_interval.specs.Inclusion.{SumHolds, ProductHolds}
 use Rattle.flex_interval.specs.Operations.{add_of, mul_of, middle_of, radius_of}
-use Rattle.lists.specs.Results.{and_then}
+use Rattle.int_laws.specs.Matrices.{Entries}
+use Rattle.lists.specs.Results.{and_then, unless}
+use Rattle.lists.proofs.SearchLemmas.{Finds, first_below-finds, any_below-here}
 use Rattle.flex_interval.specs.declared.fault.IvFault.TheVariants.{Wide}
 use Rattle.member_set.specs.declared.members.Built.{Built}
 use Rattle.member_set.specs.declared.members.Law.{Law}
 use Rattle.member_set.specs.declared.members.Member.{Member}
 use Rattle.member_set.specs.Members.{IsBuilt, nothing, shape_at, member_of, members_at, row_count, touches}
 use Rattle.member_set.specs.Realisation.{Stiffness, IsStiffnessOf, fraction, every_member, exact_entry, entry_unit}
-use Rattle.member_set.specs.Interval.{Outcome, in_turn}
+use Rattle.member_set.specs.Interval.{Outcome, found, in_turn}
 use Rattle.member_set.specs.Inclusion.{NumbersAreInRange, NodesSuffice}
-use Rattle.assembly.specs.Stiffness.{member_entry, entry_term, entry_sum, limited_entry, upper_entry, stiffness_at, IsWithinRadius}
+use Rattle.assembly.specs.Stiffness.{member_entry, entry_term, entry_sum, limited_entry, upper_entry, stiffness_at, middle, radius, is_wide, wide_row, IsWithinRadius}
 use Rattle.assembly.specs.Inclusion.{MatricesHold}
 use Rattle.assembly.proofs.Fractions.{product_within, plus_within, nothing_within}
 use Rattle.assembly.proofs.Kept.{near_of}
@@ -83,20 +85,41 @@ entry_holds sums products in_range by_node b laws s row col e built real inside 
     subst (λ (z : Ends). Within z (fraction (exact_entry every_member s row col) (entry_unit s.denominator))) same
     (rw (real.all_members, ← whole) turned)
 
-near_entry : SumHolds → ProductHolds → NumbersAreInRange → NodesSuffice → (b : Built) (laws : List Law) (s : Stiffness) (row col : ℕ) (e : Ends) (middle radius : ℤ) →
-    IsBuilt b → IsStiffnessOf b laws s → row < row_count b → upper_entry b row col ≡ Ok e → middle ≡ middle_of e → radius ≡ radius_of e →
-    IsWithinRadius (entry_unit s.denominator) (exact_entry every_member s row col) middle radius
-near_entry sums products in_range by_node b laws s row col e middle radius built real inside is middle_is radius_is =
-    rw (middle_is, radius_is)
-    (near_of e (exact_entry every_member s row col) (entry_unit s.denominator) (middle_of e) (radius_of e) (floor_of-is (e.lo +ℤ e.hi) (pos 2) (omega (arith, int_sums))) refl
-    (entry_holds sums products in_range by_node b laws s row col e built real inside is))
+near_entry : SumHolds → ProductHolds → NumbersAreInRange → NodesSuffice → (b : Built) (laws : List Law) (s : Stiffness) (row col : ℕ) (e : Ends) →
+    IsBuilt b → IsStiffnessOf b laws s → row < row_count b → upper_entry b row col ≡ Ok e →
+    IsWithinRadius (entry_unit s.denominator) (exact_entry every_member s row col) (middle_of e) (radius_of e)
+near_entry sums products in_range by_node b laws s row col e built real inside is =
+    near_of e (exact_entry every_member s row col) (entry_unit s.denominator) (middle_of e) (radius_of e) (floor_of-is (e.lo +ℤ e.hi) (pos 2) (omega (arith, int_sums))) refl
+    (entry_holds sums products in_range by_node b laws s row col e built real inside is)
 
-pub matrices_hold : SumHolds → ProductHolds → NumbersAreInRange → NodesSuffice → MatricesHold
-matrices_hold sums products in_range by_node b laws s middles radii built real assembled i j i_inside j_inside =
-    let are = assembled.entries i j i_inside j_inside in
+enclosure_holds : SumHolds → ProductHolds → NumbersAreInRange → NodesSuffice → (b : Built) (laws : List Law) (s : Stiffness) (i j : ℕ) (e : Ends) →
+    IsBuilt b → IsStiffnessOf b laws s → i < row_count b → j < row_count b → stiffness_at b i j ≡ Ok e →
+    IsWithinRadius (entry_unit s.denominator) (exact_entry every_member s i j) (middle_of e) (radius_of e)
+enclosure_holds sums products in_range by_node b laws s i j e built real i_inside j_inside is =
     let side : (i ≤ j) ⊎ (j < i) = search arith in
     elim side [
-      | inl up ↦ near_entry sums products in_range by_node b laws s i j are.enclosure _ _ built real i_inside (sym (upper_is b i j up) ∙ are.value) are.middle_is are.radius_is
-      | inr down ↦ rw (exact_symmetric s i j)
-          (near_entry sums products in_range by_node b laws s j i are.enclosure _ _ built real j_inside (sym (lower_is b i j down) ∙ are.value) are.middle_is are.radius_is)
+      | inl up ↦ near_entry sums products in_range by_node b laws s i j e built real i_inside (sym (upper_is b i j up) ∙ is)
+      | inr down ↦ rw (exact_symmetric s i j) (near_entry sums products in_range by_node b laws s j i e built real j_inside (sym (lower_is b i j down) ∙ is))
     ]
+
+-- ---- the matrices as functions
+
+not_wide : (o : Option ℕ) (pair given : Entries × Entries) → unless o pair ≡ Ok given → (o ≡ None) × (pair ≡ given)
+not_wide None pair given is = (refl, cc)
+not_wide (Some row) pair given is = absurd (cc)
+
+found_there : (o : Outcome) → (is_err o ≡ true → ⊥) → o ≡ Ok (found o)
+found_there (Ok e) not_err = refl
+found_there (Err fault) not_err = absurd (not_err refl)
+
+-- where no row is wide, every entry has its enclosure
+enclosure_there : (b : Built) (i j : ℕ) → wide_row b ≡ None → i < row_count b → j < row_count b → stiffness_at b i j ≡ Ok (found (stiffness_at b i j))
+enclosure_there b i j none i_inside j_inside =
+    let none_wide = subst (Finds (row_count b) (is_wide b)) none (first_below-finds (row_count b) (is_wide b)) in
+    found_there (stiffness_at b i j) (λ err. none_wide i i_inside (any_below-here (row_count b) (λ col. is_err (stiffness_at b i col)) j j_inside err))
+
+pub matrices_hold : SumHolds → ProductHolds → NumbersAreInRange → NodesSuffice → MatricesHold
+matrices_hold sums products in_range by_node b laws s middles radii built real given i j i_inside j_inside =
+    let are = not_wide (wide_row b) (middle b, radius b) (middles, radii) given in
+    subst (λ (pair : Entries × Entries). IsWithinRadius (entry_unit s.denominator) (exact_entry every_member s i j) (pair.0 i j) (pair.1 i j)) are.1
+    (enclosure_holds sums products in_range by_node b laws s i j (found (stiffness_at b i j)) built real i_inside j_inside (enclosure_there b i j are.0 i_inside j_inside))

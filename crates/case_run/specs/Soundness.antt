@@ -1,26 +1,26 @@
 -- That the defined answers hold, whatever worked them out, and that there are realisations that they speak of.
-use Rattle.std.specs.Prelude.{ℕ, List}
+use Rattle.std.specs.Prelude.{ℕ, ◌≡◌, List, length}
 use Rattle.flex_interval.specs.Ends.{Ends}
 use Rattle.member_set.specs.declared.members.Built.{Built}
 use Rattle.member_set.specs.Members.{system}
 use Rattle.member_set.specs.Realisation.{IsRealisation, lower_ends}
 use Rattle.model_types.specs.Lists.{Lists}
 use Rattle.model_types.specs.Rules.{IsModel}
-use Rattle.model_types.specs.declared.answers.CaseAnswer.{CaseAnswer}
 use Rattle.structure.specs.Structure.{IsStructureOf}
 use Rattle.structure.specs.Enclosure.{EnclosesElements}
 use Rattle.load_vectors.specs.Loads.{AreLoads, EncloseLoads}
 use Rattle.case_run.specs.Causes.{Plan, resting_laws}
-use Rattle.case_run.specs.Certified.{IsCaseAnswer, AreCaseAnswers}
+use Rattle.case_run.specs.Answers.{answer_of, answers_of}
 use Rattle.case_run.specs.Equilibria.{HoldsAlways, HoldAlways}
 
--- every equilibrium of every realisation of a case lies within the bounds of the answer of the case
+-- every equilibrium of every realisation of a case lies within the bounds of the answer of the case, where the order of
+-- elimination has as many places as the model has nodes
 abbrev pub AnswerHolds : Type 0
-AnswerHolds = (m : Lists) (p : Plan) (case : ℕ) (a : CaseAnswer) → IsModel m → IsCaseAnswer m case p a → HoldsAlways m case a
+AnswerHolds = (m : Lists) (p : Plan) (case : ℕ) → IsModel m → length p.order ≡ length m.nodes → HoldsAlways m case (answer_of m p case)
 
 -- the same for all cases of a model
 abbrev pub AnswersHold : Type 0
-AnswersHold = (m : Lists) (p : Plan) (answers : List CaseAnswer) → IsModel m → AreCaseAnswers m p answers → HoldAlways m answers
+AnswersHold = (m : Lists) (p : Plan) → IsModel m → length p.order ≡ length m.nodes → HoldAlways m (answers_of m p)
 
 -- the lower ends of a model's structure and of a case's loads are a realisation, where the members hold the exact straights
 -- and the loads the exact loads

@@ -1,7 +1,7 @@
 ghost use Rattle.case_run.specs.Soundness.{AnswerHolds, AnswersHold, RealisationsExist};
 
-/// What the defined answers of a model's cases hold, whatever worked them out: every equilibrium of every realisation of the
-/// model's structure under the loads of a case lies within the bounds of a certified answer.
+/// What the answers of a model's cases hold, as a function of the model and of the order of its nodes: every equilibrium of
+/// every realisation of the model's structure under the loads of a case lies within the bounds of a certified answer.
 pub fn answers_hold()
     ensures each { AnswerHolds }
     ensures all { AnswersHold }

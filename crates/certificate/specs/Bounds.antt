@@ -107,10 +107,10 @@ pub record EnclosesEquilibrium (e : Enclosure) (r : Realisation) (exact : Vector
   pub displacement : (row : ℕ) → row < r.stiffness.rows → Within (slice_index_or e.u row nothing) (fraction (exact row) r.stiffness.denominator)
   pub force : (k : ℕ) → k < r.stiffness.members → Within (force_of e.force k) (force_fraction r.stiffness.denominator (force_in r exact k))
 
--- bounds of a definite stiffness hold: how the displacements were found is no premise
+-- the bounds around displacements hold where the stiffness is definite: how the displacements were found is no premise
 abbrev pub BoundsHold : Type 0
 BoundsHold = (s : System) (u : List ℤ) (lambda : ℤ) (e : Enclosure) (r : Realisation) (exact : Vector) →
-    IsBuilt s.structure → AreStiff s.structure → pos 1 ≤ℤ lambda → AreBounds s u lambda e →
+    IsBuilt s.structure → AreStiff s.structure → pos 1 ≤ℤ lambda → bounds_around s u lambda ≡ Ok e →
     IsRealisation s r → IsDefiniteStiffness r.stiffness lambda → IsEquilibrium r exact → EnclosesEquilibrium e r exact
 
 -- both ends of an interval are below 2^67 in size
