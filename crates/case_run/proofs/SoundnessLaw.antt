@@ -48,7 +48,7 @@ value_before (Ok a) next b is = (a, refl, is)
 value_before (Err e) next b is = absurd (cc)
 
 value_named : {A E F : Type 0} (name : E → F) (o : Result A E) (a : A) → named name o ≡ Ok a → o ≡ Ok a
-value_named name (Ok x) a is = (let same : x ≡ a = cc in ap (λ (z : A). Ok z) same)
+value_named {A} name (Ok x) a is = (let same : x ≡ a = cc in ap (λ (z : A). Ok z) same)
 value_named name (Err e) a is = absurd (cc)
 
 value_of_two : {A E : Type 0} (o next : Result A E) (a : A) → or_else o next ≡ Ok a → (o ≡ Ok a) ⊎ (next ≡ Ok a)
@@ -88,16 +88,25 @@ margin_proves passed t lambda positive some given =
     let found = nothing_found (first_below t.size (row_refused t)) (least_below t.size (λ i. int_div_euclid (row_margin t i) t.scale)) lambda given in
     passed t lambda positive (no_row_fails t found.0) (is_margin t lambda some found.1)
 
--- the margin of the first shift that has one proves every matrix within the radii definite
+-- a test of the middles and radii proves every matrix within them definite
+record IsProved (rows : ℕ) (own_middles own_radii : Entries) (lambda : ℤ) : Type 0 where
+  test : CholeskyTest
+  size : test.size ≡ rows
+  middles : test.middle ≡ own_middles
+  radii : test.radius ≡ own_radii
+  positive : pos 1 ≤ℤ lambda
+  definite : EachIsDefiniteWith test lambda
+
+-- the margin of the first shift that has one is such a proof
 margin_definite : PassedTestIsProof → (p : Plan) (middles radii : Entries) (lambda : ℤ) → 0 < length p.order → margin_of p middles radii ≡ Ok lambda →
-    (t : CholeskyTest) × (t.size ≡ 6 * length p.order) × (t.middle ≡ middles) × (t.radius ≡ radii) × (pos 1 ≤ℤ lambda) × EachIsDefiniteWith t lambda
+    IsProved (6 * length p.order) middles radii lambda
 margin_definite passed p middles radii lambda some given =
     let place = one_value last_place (λ k. margin_at p middles radii (shift_of k)) lambda given in
     let shift = shift_of place.0 in
     let factor = value_before (factor_at p middles shift) (λ g. named margin_reason (margin_by (test_by middles radii p.order g shift))) lambda place.1 in
     let t = test_by middles radii p.order factor.0 shift in
-    let margin = value_named margin_reason (margin_by t) lambda factor.2 in
-    (t, refl, refl, refl, margin_proves passed t lambda (omega (arith, ints)) (omega (arith, some)) margin)
+    let proves = margin_proves passed t lambda (omega (arith, ints)) (omega (arith, some)) (value_named margin_reason (margin_by t) lambda factor.2) in
+    record { test = t; size = refl; middles = refl; radii = refl; positive = proves.0; definite = proves.1 }
 
 -- ---- what the cases share, and the bounds of a case
 
@@ -176,11 +185,12 @@ base_definite : PassedTestIsProof → MatricesHold → LinearIsEveryMember → (
 base_definite passed matrices_hold every_member m p shared s some same is structure real =
     let b = shared.structure in
     let margin = margin_definite passed p is.middles is.radii shared.lambda some is.margin in
-    let t = margin.0 in
     let near = matrices_hold b (resting_laws b) s is.middles is.radii structure.built real is.matrices in
-    (margin.4,
-    definite_stiffness b (resting_laws b) s t shared.lambda (omega (arith, margin.1, same, structure.nodes)) margin.5 real
-    (λ i j i_in j_in. rw (every_member s (λ k _. all_linear (s.member k).law) i j, margin.2, margin.3) (near i j i_in j_in)))
+    (
+      margin.positive,
+      definite_stiffness b (resting_laws b) s margin.test shared.lambda (omega (arith, margin.size, same, structure.nodes)) margin.definite real
+          (λ i j i_in j_in. rw (every_member s (λ k _. all_linear (s.member k).law) i j, margin.middles, margin.radii) (near i j i_in j_in)),
+    )
 
 certified_holds : PassedTestIsProof → MatricesHold → LinearIsEveryMember → BoundsHold → StructuresAreStiff →
     (m : Lists) (p : Plan) (case : ℕ) (e : Enclosure) → IsModel m → length p.order ≡ length m.nodes →
