@@ -1,4 +1,4 @@
--- What all cases share: the factor's shape, and that the structures and loads of a model have the same realisations.
+-- What all cases share: the factor's shape, and that the structure with its laws and loads is a system.
 use Rattle.std.proofs.Common.{◌≡◌, ℕ, ◌*◌, ◌<◌, ap, ◌∙◌, sym, subst, arith, List, Result, Ok, Err, length}
 use Rattle.std.proofs.Math.ListN.{length-replicate}
 use Rattle.std.specs.Prelude.{IfOk, MatchResult, ℤ}
@@ -32,35 +32,4 @@ is_system m case b laws loads structure resting loaded =
       built = structure.built;
       one_law_each = ap (λ (ls : List Law). length ls) resting ∙ length-replicate (length b.members) _;
       one_load_each = loaded.one_each ∙ ap (λ n. 6 * n) (sym structure.nodes);
-    }
-
-same_load : (m : Lists) (case : ℕ) (loads others : List Ends) (row : ℕ) → AreLoads m case loads → AreLoads m case others →
-    row < 6 * length m.nodes → load_of others row ≡ load_of loads row
-same_load m case loads others row loaded loaded_too inside =
-    let one = loaded.value row inside in
-    let other = loaded_too.value row inside in
-    cc
-
-pub same_realisations : (m : Lists) (case : ℕ) (b other : Built) (loads others : List Ends) (r : Realisation) →
-    IsStructureOf m b → IsStructureOf m other → AreLoads m case loads → AreLoads m case others →
-    IsRealisation (system other (resting_laws other) others) r → IsRealisation (system b (resting_laws b) loads) r
-same_realisations m case b other loads others r structure structure_too loaded loaded_too real =
-    let one = structure.members in
-    let two = structure_too.members in
-    let same : other.members ≡ b.members = cc in
-    let stiffness = real.stiffness in
-    let numbers = real.numbers in
-    let count = ap (λ (xs : List Member). length xs) same in
-    record {
-      stiffness = record {
-        positive = stiffness.positive;
-        all_rows = omega (arith, stiffness.all_rows, structure.nodes, structure_too.nodes);
-        all_members = stiffness.all_members ∙ count;
-        member_within = λ k inside. rw same at (stiffness.member_within k inside);
-      };
-      numbers = record {
-        offset_within = λ k inside. rw same at (numbers.offset_within k inside);
-        load_within = λ row inside.
-            rw (sym (same_load m case loads others row loaded loaded_too (omega (arith, stiffness.all_rows, structure_too.nodes)))) (numbers.load_within row inside);
-      };
     }

@@ -36,14 +36,6 @@ pub record IsRadiusMatrix (nodes : ℕ) (m : Matrix) : Type 0 where
   pub not_negative : (i j : ℕ) → pos 0 ≤ℤ entry m i j
   pub below : (i j : ℕ) → entry m i j <ℤ pos (2 ^ 60)
 
--- every symmetric matrix within the radii is definite with lambda
-abbrev pub AreDefinite : Matrix → Matrix → ℤ → Type 0
-AreDefinite middles radii lambda =
-    (k : SymmetricFractions (6 * node_count middles)) →
-    ((i j : ℕ) → i < 6 * node_count middles → j < 6 * node_count middles →
-    absolute (k.numerator i j -ℤ (k.denominator *ℤ entry middles i j)) ≤ℤ (k.denominator *ℤ entry radii i j)) →
-    IsDefiniteWith (6 * node_count middles) lambda k
-
 -- a factor of a structure's nodes with a positive diagonal
 pub record IsFactorFor (b : Built) (f : ColumnLists) : Type 0 where
   pub nodes_are : length f.order ≡ nodes_of b
