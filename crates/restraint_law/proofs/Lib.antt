@@ -1,0 +1,2 @@
+pub mod DirectionLemmas
+pub mod MemberLemmas

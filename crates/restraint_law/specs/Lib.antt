@@ -1,0 +1,4 @@
+pub mod Directions
+pub mod Restraints
+pub mod Enclosures
+pub mod States
