@@ -3,7 +3,8 @@ use Rattle.std.proofs.Common.{◌≡◌, ℕ, zero, suc, ◌+◌, ◌*◌, ◌/�
 use Rattle.std.specs.Int.{w64, w128}
 use Rattle.flex_interval.specs.Fraction.{Fraction, Within}
 use Rattle.flex_interval.specs.Roots.{IsNonnegative, raised}
-use Rattle.model_types.specs.Ranges.{IsIn, direction_part}
+use Rattle.model_types.specs.Ranges.{IsIn}
+use Rattle.model_types.specs.declared.ranges.TheConstants.{DIRECTION_PART}
 use Rattle.std.proofs.lemmas.Nat.{pow-add, pow_pos, mul-le}
 use Rattle.std.proofs.lemmas.Int.{ints, unsigned_abs-mul}
 use Rattle.int_laws.proofs.Sums.{int_sums}
@@ -137,7 +138,7 @@ pub parts_within : (x y z : ℤ) → ((x *ℤ x) ≤ℤ (((x *ℤ x) +ℤ (y *�
 parts_within x y z = three_parts (x *ℤ x) (y *ℤ y) (z *ℤ z) (square_nonnegative x) (square_nonnegative y) (square_nonnegative z)
 
 -- ---- sizes
-pub part_fits : (z : ℤ) → IsIn direction_part z → FitsSigned w64 z
+pub part_fits : (z : ℤ) → IsIn DIRECTION_PART z → FitsSigned w64 z
 part_fits z h = omega (arith, int_sums, h.least, h.most)
 
 pub two_fit : (p q : ℤ) → pos 0 ≤ℤ p → pos 0 ≤ℤ q → p ≤ℤ pos 1000000000000 → q ≤ℤ pos 1000000000000 → FitsSigned w128 (p +ℤ q)

@@ -13,13 +13,14 @@ use Rattle.member_pairs.specs.Axes.{Axis, x_axis, y_axis, z_axis, translation, r
 use Rattle.member_pairs.specs.Pairs.{EnclosesShape}
 use Rattle.member_pairs.specs.Span.{Span}
 use Rattle.member_pairs.specs.Vectors.{Exact, EnclosesVector, vector_of}
-use Rattle.model_types.specs.Ranges.{IsIn, stiffness}
+use Rattle.model_types.specs.Ranges.{IsIn}
+use Rattle.model_types.specs.declared.ranges.TheConstants.{STIFFNESS}
 use Rattle.model_types.specs.declared.records.RestraintKind.TheVariants.{Anchor}
 use Rattle.restraint_law.specs.Directions.{unit_vector, exact_unit}
 use Rattle.restraint_law.specs.Enclosures.{restraint_shape, exact_axis, HoldsAlong, EnclosesRestraint}
 use Rattle.restraint_law.specs.Restraints.{restraint_member, on_translation, on_rotation, axis_vector, kind_members, anchor_stiffness}
 
-pub stiffness_fits : (k : ℤ) → IsIn stiffness k → FitsSigned w64 k
+pub stiffness_fits : (k : ℤ) → IsIn STIFFNESS k → FitsSigned w64 k
 stiffness_fits k h = omega (arith, int_sums, h.least, h.most)
 
 point_within : (n : ℤ) → Within (point_of n) (whole n)

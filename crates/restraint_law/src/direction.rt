@@ -2,7 +2,8 @@ ghost use Rattle.std.specs.Prelude.{◌≡◌, Ok, ◌+◌, ◌*◌, ◌≤◌, 
 ghost use Rattle.flex_interval.specs.Fraction.{Fraction, Within, whole, over};
 ghost use Rattle.flex_interval.specs.Operations.{point_of, sqrt_of, quotients};
 ghost use Rattle.flex_interval.specs.Roots.{EnclosesRoot};
-ghost use Rattle.model_types.specs.Ranges.{IsIn, direction_part};
+ghost use Rattle.model_types.specs.Ranges.{IsIn};
+ghost use Rattle.model_types.specs.declared.ranges.TheConstants.{DIRECTION_PART};
 ghost use Rattle.member_pairs.specs.Span.{square_of};
 ghost use Rattle.member_pairs.specs.Vectors.{EnclosesVector};
 ghost use Rattle.restraint_law.specs.Directions.{IsRestraintDirection, parts, length_shift, length_of, unit_vector, IsLength, exact_unit};
@@ -72,7 +73,7 @@ fn square(d: &Direction) -> i128
 }
 
 fn product(part: i64) -> i128
-    requires { IsIn direction_part part }
+    requires { IsIn DIRECTION_PART part }
     ensures value { result ≡ part *ℤ part }
     ensures low { pos 0 ≤ℤ result }
     ensures high { result ≤ℤ pos 1000000000000 }
@@ -83,7 +84,7 @@ fn product(part: i64) -> i128
 
 /// A part of the unit vector.
 fn unit_part(part: i64, length: &ScaledLength) -> Iv
-    requires part { IsIn direction_part part }
+    requires part { IsIn DIRECTION_PART part }
     requires shift { length.now.shift ≤ 60 }
     requires positive { pos 0 <ℤ length.now.scaled.lo }
     requires small { unsigned_abs (part *ℤ pos (2 ^ (56 + length.now.shift))) ≤ 2 ^ 125 }
@@ -94,7 +95,7 @@ fn unit_part(part: i64, length: &ScaledLength) -> Iv
 }
 
 fn exactly(part: i64) -> Iv
-    requires { IsIn direction_part part }
+    requires { IsIn DIRECTION_PART part }
     ensures value { result ≡ point_of part }
     ensures within { Within result (whole part) }
 {

@@ -1,7 +1,8 @@
 ghost use Rattle.std.specs.Prelude.{◌≡◌, ◌^◌, ◌++◌, ℤ, pos, ◌*ℤ◌, IfOk, length, replicate};
 ghost use Rattle.flex_interval.specs.Fraction.{Within, whole};
 ghost use Rattle.flex_interval.specs.Operations.{point_of};
-ghost use Rattle.model_types.specs.Ranges.{IsIn, IsStiffness, KindInForm, stiffness};
+ghost use Rattle.model_types.specs.Ranges.{IsIn, IsStiffness, KindInForm};
+ghost use Rattle.model_types.specs.declared.ranges.TheConstants.{STIFFNESS};
 ghost use Rattle.model_types.specs.declared.records.RestraintKind.TheVariants.{Anchor};
 ghost use Rattle.member_pairs.specs.Axes.{translation, rotation};
 ghost use Rattle.restraint_law.specs.Directions.{parts, unit_vector, IsRestraintDirection};
@@ -93,16 +94,16 @@ fn rotation_member(node: u32, d: &Direction, k: Option<i64>) -> Member
 
 fn stated_or(k: Option<i64>, default: i64) -> i64
     requires stated { IsStiffness k }
-    requires default { IsIn stiffness default }
+    requires default { IsIn STIFFNESS default }
     ensures value { result ≡ stated_or default k }
-    ensures stiffness { IsIn stiffness result }
+    ensures stiffness { IsIn STIFFNESS result }
 {
     k.unwrap_or(default)
 }
 
 /// A member of so much stiffness, in N/m or N m/rad, with these shape numbers.
 fn member(node: u32, k: i64, w: [Iv; 12]) -> Member
-    requires { IsIn stiffness k }
+    requires { IsIn STIFFNESS k }
     ensures value { result ≡ restraint_member node k w }
     ensures stiffness { Within result.kappa (whole (k *ℤ pos (2 ^ 20))) }
 {
