@@ -31,7 +31,7 @@ nodes_paired holds m case u loads always = λ b case_loads r exact structure loa
     let within = always b case_loads r exact structure loaded realised balanced in
     let own : n < length m.nodes = node in
     let six : f < 6 = freedom in
-    let inside : 6 * n + f < r.stiffness.rows = omega (arith, realised.all_rows, structure.nodes, own, six) in
+    let inside : 6 * n + f < r.stiffness.rows = omega (arith, realised.stiffness.all_rows, structure.nodes, own, six) in
     holds (pos (10 ^ 9)) (pos (2 ^ 56)) (omega arith) (omega arith) (bounds_at u (6 * n + f)) (fraction (exact (6 * n + f)) r.stiffness.denominator) (within.displacement (6 * n + f) inside)
 
 -- a load of a restraint is one of the loads of all
@@ -49,7 +49,7 @@ restraints_paired holds counts m case u loads anchors always = λ b case_loads r
     let k = loads_before m.restraints n + f in
     let among : k < restraints_member_count m.restraints = load_inside m.restraints n f restraint own in
     let members = counts m b.members anchors structure.members in
-    let inside : element_member_count m + k < r.stiffness.members = omega (arith, realised.all_members, members, among) in
+    let inside : element_member_count m + k < r.stiffness.members = omega (arith, realised.stiffness.all_members, members, among) in
     holds (pos 1000) (pos (2 ^ 40)) (omega arith) (omega arith) (bounds_at loads k) (force_fraction r.stiffness.denominator (force_in r exact (element_member_count m + k))) (within.load k inside)
 
 -- the lines of an answer are the text of its case
