@@ -15,6 +15,7 @@ use Rattle.pipeflex_top.specs.declared.commands.Command.{Command}
 use Rattle.pipeflex_top.specs.declared.commands.Command.TheVariants.{Members, Echo, Analyse}
 use Rattle.pipeflex_top.specs.Enclosure.{PrintsEnclosures}
 use Rattle.pipeflex_top.specs.Analysis.{IsReport}
+use Rattle.pipeflex_top.specs.Told.{IsReportText}
 use Rattle.pipeflex_top.specs.Run.{Answers, AnswersModel, Ask, AskAnalysis, plain, stated, Asks, Decides, HasForm, IsAnswer, IsOutput, IsRefusedFor, faulty, unbuilt, ReadsText, Takes, IsEnding}
 
 -- the bytes that were taken are the text up to the byte past the limit, so what is left follows them
@@ -102,11 +103,11 @@ output_ends Members m output status written = written.made.2
 output_ends Echo m output status written = written.made.1
 output_ends (Analyse workers) m output Done written = inl refl
 output_ends (Analyse workers) m output Uncertified written = inr refl
-output_ends (Analyse workers) m output Refused written = absurd written.made.ends
-output_ends (Analyse workers) m output Usage written = absurd written.made.ends
-output_ends (Analyse workers) m output ReadFault written = absurd written.made.ends
-output_ends (Analyse workers) m output WriteFault written = absurd written.made.ends
-output_ends (Analyse workers) m output NoMemory written = absurd written.made.ends
+output_ends (Analyse workers) m output Refused written = absurd written.made.0.ends
+output_ends (Analyse workers) m output Usage written = absurd written.made.0.ends
+output_ends (Analyse workers) m output ReadFault written = absurd written.made.0.ends
+output_ends (Analyse workers) m output WriteFault written = absurd written.made.0.ends
+output_ends (Analyse workers) m output NoMemory written = absurd written.made.0.ends
 
 -- the numbers of workers that the words ask for are the same
 one_count : (words : List (List ℕ)) (first second : ℕ) → AskAnalysis words first → AskAnalysis words second → first ≡ second
@@ -192,14 +193,14 @@ enclosed-answer words (Some text) after output message status answers done membe
 
 -- where the report was written, it is that of the model
 certified-model : (words : List (String Global)) (text output message : List ℕ) (after : Option (List ℕ)) (status : Status) (workers : ℕ)
-    → AnswersModel words (Some text) after output message status → Asks words (Analyse workers) → IfOk (parsed text) (λ m. IsReport m output status)
+    → AnswersModel words (Some text) after output message status → Asks words (Analyse workers) → IfOk (parsed text) (λ m. IsReport m output status × IsReportText m output)
 certified-model words text output message after status workers model asks =
     let made = subst (λ command. IsOutput command model.model output status) (one_command _ model.command (Analyse workers) model.asked asks) model.written in
-    subst (λ judged. IfOk judged (λ m. IsReport m output status)) (sym model.text) made.made
+    subst (λ judged. IfOk judged (λ m. IsReport m output status × IsReportText m output)) (sym model.text) made.made
 
 pub certified-answer : (words : List (String Global)) (left after : Option (List ℕ)) (output message : List ℕ) (status : Status) (workers : ℕ)
     → Answers words left after output message status → Asks words (Analyse workers) → (status ≡ Done) ⊎ (status ≡ Uncertified)
-    → IfSome left (λ text. IfOk (parsed text) (λ m. IsReport m output status))
+    → IfSome left (λ text. IfOk (parsed text) (λ m. IsReport m output status × IsReportText m output))
 certified-answer words None after output message status workers answers asks written = tt
 certified-answer words (Some text) after output message status workers answers asks (inl done) =
     let model : AnswersModel words (Some text) after output message status = subst (AnswersModel words (Some text) after output message) (sym done) (subst (Answers words (Some text) after output message) done answers) in

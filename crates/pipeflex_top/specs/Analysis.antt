@@ -8,7 +8,6 @@ use Rattle.model_types.specs.Lists.{Lists}
 use Rattle.model_types.specs.declared.answers.CaseAnswer.{CaseAnswer}
 use Rattle.model_types.specs.declared.answers.CaseAnswer.TheVariants as answer
 use Rattle.report.specs.Report.{report_of}
-use Rattle.pipeflex_top.specs.Told.{IsReportText}
 
 -- two nodes are eliminated in text order: the parent of the first is the second
 abbrev pub text_order : Plan
@@ -29,12 +28,10 @@ EndsWith answers _ = ⊥
 abbrev pub analysis_of : Lists → List CaseAnswer
 analysis_of m = answers_of m text_order
 
--- the output is the report of the answers of the model's cases, the run ends as they say, and in each case that the text
--- calls certified every equilibrium lies between the numbers that stand there
+-- the output is the report of the answers of the model's cases, and the run ends as they say
 pub record IsReport (m : Lists) (output : List ℕ) (status : Status) : Type 0 where
   pub written : output ≡ report_of m (analysis_of m)
   pub ends : EndsWith (analysis_of m) status
-  pub told : IsReportText m output
 
 -- a model has one report, and a run that writes it one ending
 abbrev pub ReportIsDetermined : Type 0

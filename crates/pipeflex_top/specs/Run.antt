@@ -14,6 +14,7 @@ use Rattle.pipeflex_top.specs.declared.commands.Command.TheVariants.{Members, Ec
 use Rattle.pipeflex_top.specs.declared.reply.Message.{Message}
 use Rattle.pipeflex_top.specs.declared.reply.Message.TheVariants.{Fixed, Built}
 use Rattle.pipeflex_top.specs.Analysis.{IsReport}
+use Rattle.pipeflex_top.specs.Told.{IsReportText}
 use Rattle.pipeflex_top.specs.Enclosure.{PrintsEnclosures}
 use Rattle.pipeflex_top.specs.MemberTable.{table_of}
 use Rattle.pipeflex_top.specs.OneStraight.{IsOneStraight}
@@ -65,11 +66,11 @@ Takes Echo m = ⊤
 Takes (Analyse workers) m = IsOneStraight m
 
 -- what a command makes of a model, and how a run ends that has written it: the member table, the canonical text, or the
--- report
+-- report, in which each case that the text calls certified has every equilibrium between the numbers that stand there
 abbrev pub IsOutputOf : Command → Lists → List ℕ → Status → Type 0
 IsOutputOf Members m output status = (output ≡ table_of m) × PrintsEnclosures m × (status ≡ Done)
 IsOutputOf Echo m output status = (output ≡ canonical m) × (status ≡ Done)
-IsOutputOf (Analyse workers) m output status = IsReport m output status
+IsOutputOf (Analyse workers) m output status = IsReport m output status × IsReportText m output
 
 -- the output is the command's on a model that it takes, and the run ends so
 pub record IsOutput (command : Command) (m : Lists) (output : List ℕ) (status : Status) : Type 0 where

@@ -1,6 +1,7 @@
 //! The report of the analysis of a model.
 ghost use Rattle.std.specs.Prelude.{◌≡◌, ◌↔◌, IfOk, IsTrue, All};
 ghost use Rattle.pipeflex_top.specs.Analysis.{IsReport, EndsWith, IsCertifiedAnswer};
+ghost use Rattle.pipeflex_top.specs.Told.{IsReportText};
 ghost use Rattle.pipeflex_top.specs.OneStraight.{IsOneStraight};
 
 use crate::written::Written;
@@ -13,7 +14,8 @@ use std::alloc::Global;
 /// The report of a model, and how the run ends that has written it.
 pub fn analysis(alloc: Global, model: &Model) -> Result<Written, NoMemory>
     requires { IsOneStraight model.now }
-    ensures { IfOk result (λ written. IsReport model.now written.bytes.items written.status) }
+    ensures { IfOk result (λ written. IsReport model.now written.bytes.items written.status
+        × IsReportText model.now written.bytes.items) }
 {
     // The laws of what the answers and a printed pair hold.
     structure::models_have_their_members();

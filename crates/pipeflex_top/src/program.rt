@@ -6,6 +6,7 @@ ghost use Rattle.flex_io.specs.declared.Status.{Status};
 ghost use Rattle.model_text.specs.Grammar.{parsed};
 ghost use Rattle.pipeflex_top.specs.declared.commands.Command.TheVariants.{Members, Analyse};
 ghost use Rattle.pipeflex_top.specs.Analysis.{IsReport};
+ghost use Rattle.pipeflex_top.specs.Told.{IsReportText};
 ghost use Rattle.pipeflex_top.specs.Enclosure.{PrintsEnclosures};
 ghost use Rattle.pipeflex_top.specs.Run.{Answers, Asks, Decides, HasForm, TellsReadFault, message_bytes};
 
@@ -54,7 +55,8 @@ pub fn run<R: Threads + Sync, S: Source, K: Sink, E: Sink, G: Gate>(
     ensures certified { (workers : ℕ) → Asks words.now (Analyse workers)
         → (result ≡ Status.Done) ⊎ (result ≡ Status.Uncertified)
         → IfSome (S.left source.old) (λ text. IfOk (parsed text) (λ model. (output : List ℕ)
-        × WritesAll K.held out.old out.new output × IsReport model output result)) }
+        × WritesAll K.held out.old out.new output
+        × (IsReport model output result × IsReportText model output))) }
 
     // Wrong words leave the source unread.
     ensures unread { ¬ HasForm words.now → source.new ≡ source.old }

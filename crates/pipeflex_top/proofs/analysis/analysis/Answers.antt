@@ -24,10 +24,12 @@ returns c =
     let given = found.ensures.given in
     let written : c.in_ok-bytes.bytes.items ≡ report_of model found.answers.items = subst (λ answers. c.in_ok-bytes.bytes.items ≡ report_of model answers) c.deref-2.ensures.value c.in_ok-bytes.ensures in
     let report : c.in_ok-bytes.bytes.items ≡ report_of model (analysis_of model) = subst (λ answers. c.in_ok-bytes.bytes.items ≡ report_of model answers) given written in
-    record {
-      written = report;
-      ends = subst (λ answers. EndsWith answers c.ending_with-status.result) (c.deref.ensures.value ∙ given) c.ending_with-status.ensures;
-      told = report_told c.printed_pairs_hold.ensures c.models_have_their_members.ensures model (analysis_of model) c.in_ok-bytes.bytes.items c.requires.anchors
+    (
+      record {
+        written = report;
+        ends = subst (λ answers. EndsWith answers c.ending_with-status.result) (c.deref.ensures.value ∙ given) c.ending_with-status.ensures;
+      },
+      report_told c.printed_pairs_hold.ensures c.models_have_their_members.ensures model (analysis_of model) c.in_ok-bytes.bytes.items c.requires.anchors
           (length-map-range_with_len (answer_of model text_order) 0 (length model.cases))
-          (c.answers_hold.ensures.all model text_order c.nodes-nodes.ensures.model (sym c.requires.few.nodes)) report;
-    }
+          (c.answers_hold.ensures.all model text_order c.nodes-nodes.ensures.model (sym c.requires.few.nodes)) report,
+    )
