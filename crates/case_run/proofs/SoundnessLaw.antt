@@ -185,8 +185,7 @@ base_definite : PassedTestIsProof → MatricesHold → LinearIsEveryMember → (
 base_definite passed matrices_hold every_member m p shared s some same is structure real =
     let b = shared.structure in
     let margin = margin_definite passed p is.middles is.radii shared.lambda some is.margin in
-    let near = matrices_hold b (resting_laws b) s is.middles is.radii structure.built real is.matrices in
-    (
+    let near = matrices_hold b (resting_laws b) s is.middles is.radii structure.built real is.matrices in (
       margin.positive,
       definite_stiffness b (resting_laws b) s margin.test shared.lambda (omega (arith, margin.size, same, structure.nodes)) margin.definite real
           (λ i j i_in j_in. rw (every_member s (λ k _. all_linear (s.member k).law) i j, margin.middles, margin.radii) (near i j i_in j_in)),

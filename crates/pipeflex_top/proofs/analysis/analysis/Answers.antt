@@ -23,8 +23,7 @@ returns c =
     let found = c.in_ok-answers in
     let given = found.ensures.given in
     let written : c.in_ok-bytes.bytes.items ≡ report_of model found.answers.items = subst (λ answers. c.in_ok-bytes.bytes.items ≡ report_of model answers) c.deref-2.ensures.value c.in_ok-bytes.ensures in
-    let report : c.in_ok-bytes.bytes.items ≡ report_of model (analysis_of model) = subst (λ answers. c.in_ok-bytes.bytes.items ≡ report_of model answers) given written in
-    (
+    let report : c.in_ok-bytes.bytes.items ≡ report_of model (analysis_of model) = subst (λ answers. c.in_ok-bytes.bytes.items ≡ report_of model answers) given written in (
       record {
         written = report;
         ends = subst (λ answers. EndsWith answers c.ending_with-status.result) (c.deref.ensures.value ∙ given) c.ending_with-status.ensures;
