@@ -17,8 +17,10 @@ $(PROGRAM): crates.txt $(shell find crates -path '*/out' -prune -o -type f \( -n
 run: $(PROGRAM)
 	$(PROGRAM) analyse < $(EXAMPLE).flex | tee /dev/stderr | cmp - $(EXAMPLE).report
 
-# The gate: everything proved from nothing, every must-fail edit, test and program.
+# The gate: everything proved from nothing, every must-fail edit, test and program. Two examples are files of stored runs.
 test:
+	cmp examples/cantilever.flex crates/pipeflex/stdin && cmp examples/cantilever.report crates/pipeflex/stdout
+	cmp examples/offset.flex crates/pipeflex_members/stdin && cmp examples/offset.members crates/pipeflex_members/stdout
 	rt ci
 
 install: $(PROGRAM)
