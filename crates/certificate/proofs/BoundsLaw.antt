@@ -19,7 +19,7 @@ use Rattle.member_set.specs.Interval.{Outcome, found, forces_of, residual_of}
 use Rattle.member_set.specs.Inclusion.{ForcesHold, ResidualsHold}
 use Rattle.bound_laws.specs.Nearness.{StiffnessMatrixExists, EquilibriaAreNear, NearIsEnclosed, RootIsLength, RoundedRadiiAreEnough, NoNegativeStiffness, IsResidualLength, AreForcesWithin, AreResidualsWithin, greater_size, displacement_radius_of, force_radius_of}
 use Rattle.certificate.specs.declared.bounds.Enclosure.{Enclosure}
-use Rattle.certificate.specs.Bounds.{IsDefiniteStiffness, residual_at, residual_length, force_radius, HasBounds, AreBounds, bounds_fail, enclosure_of, EnclosesEquilibrium, BoundsHold}
+use Rattle.certificate.specs.Bounds.{IsDefiniteStiffness, residual_at, residual_length, force_radius, HasBounds, AreBounds, bounds_fail, enclosure_of, bounds_around, EnclosesEquilibrium, BoundsHold}
 use Rattle.certificate.proofs.BoundsLemmas.{ordered}
 
 -- an outcome that is there is that of the interval found
@@ -117,8 +117,13 @@ own_bounds s u lambda has =
       no_states = refl;
     }
 
+-- what the bounds say that the function gives
+pub given_bounds : (s : System) (u : List ℤ) (lambda : ℤ) (e : Enclosure) → bounds_around s u lambda ≡ Ok e → AreBounds s u lambda e
+given_bounds s u lambda e given =
+    let is = by_test (bounds_fail s u lambda) (enclosure_of s u lambda) e given in
+    subst (AreBounds s u lambda) is.1 (own_bounds s u lambda (exist s u lambda is.0))
+
 pub bounds_hold : ForcesHold → ResidualsHold → StiffnessMatrixExists → EquilibriaAreNear → NearIsEnclosed → RootIsLength → RoundedRadiiAreEnough → BoundsHold
 bounds_hold forces residuals matrix_exists equilibria_near near_enclosed root_is_length radii_enough s u lambda e r exact built stiff one given real definite balanced =
-    let is = by_test (bounds_fail s u lambda) (enclosure_of s u lambda) e given in
     bounds_enclose forces residuals matrix_exists equilibria_near near_enclosed root_is_length radii_enough s u lambda e r exact built stiff one
-    (subst (AreBounds s u lambda) is.1 (own_bounds s u lambda (exist s u lambda is.0))) real definite balanced
+    (given_bounds s u lambda e given) real definite balanced

@@ -13,6 +13,7 @@ use Rattle.certificate.specs.declared.bounds.Enclosure.{Enclosure}
 use Rattle.certificate.specs.Bounds.{AreBounds, HasLimitedEnds, BoundsAreLimited, displacement_radius, force_radius, sum_of_squares}
 use Rattle.certificate.specs.Widening.{IsLimited}
 use Rattle.certificate.proofs.BoundsLemmas.{member_limited}
+use Rattle.certificate.proofs.BoundsLaw.{given_bounds}
 
 lower_below : (z radius : ℤ) → unsigned_abs z ≤ 2 ^ 66 → pos 0 ≤ℤ radius → radius <ℤ pos (2 ^ 60) → unsigned_abs (z -ℤ radius) < 2 ^ 67
 lower_below z radius small up below = omega (arith, int_sums)
@@ -54,7 +55,8 @@ forces_below radii_up b laws loads u lambda e one bounds =
     (widened_below (found (forces_of b laws u k)) (force_radius (system b laws loads) u lambda k) (found_limited b laws u k (bounds.exist.forces k here)) radius_up (bounds.exist.steady k here)))
 
 pub bounds_limited : RadiiAreNotNegative → BoundsAreLimited
-bounds_limited radii_up s u lambda e one rows moderate bounds = (
-  displacements_below radii_up s.structure s.laws s.loads u lambda e one rows moderate bounds,
-  forces_below radii_up s.structure s.laws s.loads u lambda e one bounds,
-)
+bounds_limited radii_up s u lambda e one rows moderate given =
+    let bounds = given_bounds s u lambda e given in (
+      displacements_below radii_up s.structure s.laws s.loads u lambda e one rows moderate bounds,
+      forces_below radii_up s.structure s.laws s.loads u lambda e one bounds,
+    )

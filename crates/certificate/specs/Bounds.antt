@@ -120,5 +120,5 @@ HasLimitedEnds e = (unsigned_abs e.lo < 2 ^ 67) × (unsigned_abs e.hi < 2 ^ 67)
 -- bounds around moderate displacements are below 2^67 in size
 abbrev pub BoundsAreLimited : Type 0
 BoundsAreLimited = (s : System) (u : List ℤ) (lambda : ℤ) (e : Enclosure) →
-    pos 1 ≤ℤ lambda → length u ≡ row_count s.structure → IsModerate u → AreBounds s u lambda e →
+    pos 1 ≤ℤ lambda → length u ≡ row_count s.structure → IsModerate u → bounds_around s u lambda ≡ Ok e →
     All HasLimitedEnds e.u × All HasLimitedEnds e.force
