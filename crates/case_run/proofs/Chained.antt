@@ -1,5 +1,5 @@
 -- What the steps of an analysis give, put together to the answers as a function of the model.
-use Rattle.std.specs.Prelude.{is_err, IsErr, IfSome, MatchResult, replicate}
+use Rattle.std.specs.Prelude.{is_err, IsErr, IfOk, IfSome, MatchResult, replicate}
 use Rattle.std.proofs.Common.{◌≡◌, ℕ, zero, suc, ◌+◌, ◌*◌, ◌<◌, ◌≤◌, inl, inr, refl, sym, ◌∙◌, ap, ap₂, subst, arith, Bool, Option, Some, None, Result, Ok, Err, List, [], ◌∷◌, ◌++◌, length, map, drop, get_or, ℤ, pos}
 use Rattle.std.proofs.lemmas.Bool.{cases_lt}
 use Rattle.std.proofs.lemmas.List.{length-replicate, get_or-replicate}
@@ -15,7 +15,7 @@ use Rattle.model_types.specs.Lists.{Lists}
 use Rattle.model_types.specs.declared.answers.Bounds.{Bounds}
 use Rattle.model_types.specs.declared.answers.Cause.{Cause}
 use Rattle.model_types.specs.declared.answers.CaseAnswer.{CaseAnswer}
-use Rattle.model_types.specs.declared.answers.CaseAnswer.TheVariants.{Certified, Uncertified}
+use Rattle.model_types.specs.declared.answers.CaseAnswer.TheVariants.{Uncertified}
 use Rattle.model_types.specs.declared.ids.ElementId.{ElementId}
 use Rattle.structure.specs.Structure.{model_members, structure_of}
 use Rattle.structure.specs.declared.fault.BuildFault.{BuildFault}
@@ -44,8 +44,7 @@ use Rattle.certificate.specs.declared.fault.EncloseFault.{EncloseFault}
 use Rattle.certificate.specs.declared.fault.EncloseFault.TheVariants as enclosures
 use Rattle.case_run.specs.declared.fault.CaseFault.{CaseFault}
 use Rattle.case_run.specs.declared.fault.CaseFault.TheVariants.{Because, NoMemory}
-use Rattle.case_run.specs.Causes.{Plan, resting_laws, IsFactorAt}
-use Rattle.case_run.specs.Certified.{TellsBounds, bounds_of}
+use Rattle.case_run.specs.Causes.{Plan, resting_laws}
 use Rattle.structure.specs.Elements.{element_member_count}
 use Rattle.case_run.specs.Faults.{build_fault, assemble_fault, load_fault, scalar_fault, solve_fault, enclose_fault, reason_told}
 use Rattle.case_run.specs.Answers.{Reason, because, element_reason, matrix_reason, breakdown_reason, margin_reason, load_reason, turns_reason, bounds_reason, factor_at, margin_at, margin_of, Base, base, base_of, enclosure_in, answer_with, answers_of}
@@ -181,14 +180,14 @@ only_middle b None middles radii is = (sym (ap (first_or (middle b)) is))
 only_middle b (Some row) middles radii is = absurd (cc)
 
 -- the factor without a shift is that of the structure's middles
-pub unshifted_there : (p : Plan) (b : Built) (middles : Matrix) (radii : Entries) (Q : Cause → Type 0) (r : Result ColumnLists Cause) →
-    named matrix_reason (matrices_of b) ≡ Ok (block_entry middles, radii) → MatchResult r (IsFactorAt p middles (pos 0)) Q →
+pub unshifted_there : (p : Plan) (b : Built) (middles : Matrix) (radii : Entries) (r : Result ColumnLists Cause) →
+    named matrix_reason (matrices_of b) ≡ Ok (block_entry middles, radii) → IfOk r (λ f. f.order ≡ p.order) →
     MatchResult r (λ f. factor_at p (block_entry middles) (pos 0) ≡ Ok (factor_entry f)) (λ cause. factor_at p (block_entry middles) (pos 0) ≡ Err (because cause)) →
     MatchResult r (λ f. (f.order ≡ p.order) × (factor_at p (middle b) (pos 0) ≡ Ok (factor_entry f))) (λ cause. factor_at p (middle b) (pos 0) ≡ Err (because cause))
-unshifted_there p b middles radii Q (Ok f) matrices factor given =
+unshifted_there p b middles radii (Ok f) matrices order given =
     let same = only_middle b (wide_row b) (block_entry middles) radii matrices in
-    (factor.order_is, subst (λ (k : Entries). factor_at p k (pos 0) ≡ Ok (factor_entry f)) same given)
-unshifted_there p b middles radii Q (Err cause) matrices factor given =
+    (order, subst (λ (k : Entries). factor_at p k (pos 0) ≡ Ok (factor_entry f)) same given)
+unshifted_there p b middles radii (Err cause) matrices order given =
     let same = only_middle b (wide_row b) (block_entry middles) radii matrices in
     subst (λ (k : Entries). factor_at p k (pos 0) ≡ Err (because cause)) same given
 
@@ -247,14 +246,6 @@ pub case_bounds : (m : Lists) (p : Plan) (case : ℕ) (b : Built) (lambda : ℤ)
     enclosure_in m p case (base b lambda) ≡ Ok e
 case_bounds m p case b lambda loads f u e has turned is =
     case_by_bounds m p case b lambda loads f u has turned ∙ ap (named (λ (w : Wide). bounds_reason)) is
-
-certified_same : (u v forces others : List Bounds) (states marks : List Bool) → u ≡ v → forces ≡ others → states ≡ marks → Certified u forces states ≡ Certified v others marks
-certified_same u v forces others states marks us all closed = cc (us, all, closed)
-
-pub told_is : (first : ℕ) (e : Enclosure) (a : CaseAnswer) (o : Result Enclosure Reason) → TellsBounds first e a → o ≡ Ok e → a ≡ answer_with first o
-told_is first e (Certified u forces states) o tells is =
-    certified_same u _ forces _ states [] tells.0 tells.1 tells.2 ∙ ap (answer_with first) (sym is)
-told_is first e (Uncertified cause guess) o tells is = absurd tells
 
 -- ---- all cases
 

@@ -1,43 +1,78 @@
 -- The answers of the cases of a model fit it: as many bounds as there are displacements and loads of restraints, none of
 -- them large, or a cause that names the model's own records, with nothing beside it.
-use Rattle.std.proofs.Common.{◌≡◌, ℕ, Bool, zero, suc, ◌+◌, ◌*◌, ◌/◌, ◌%◌, ◌^◌, ◌<◌, List, [], ◌++◌, length, get_or, map, drop, All, inr, refl, sym, ap, ◌∙◌, subst, arith, Result, Ok, Err, ℤ, pos, ◌≤ℤ◌, length-drop}
-use Rattle.std.proofs.Math.ListN.{length-replicate}
-use Rattle.std.proofs.lemmas.Int.{ints}
+use Rattle.std.proofs.Common.{◌≡◌, ℕ, Bool, true, false, zero, suc, ◌+◌, ◌*◌, ◌/◌, ◌%◌, ◌^◌, ◌<◌, ◌≤◌, List, [], ◌++◌, length, get_or, map, drop, All, refl, sym, ap, ◌∙◌, subst, arith, Option, Some, None, Result, Ok, Err, ℤ, pos, ◌≤ℤ◌, unsigned_abs, length-drop, inl, inr}
+use Rattle.std.proofs.lemmas.Bool.{false≢true, cases_lt}
 use Rattle.std.proofs.lemmas.List.{length-map}
-use Rattle.std.proofs.lemmas.List.Elements.{All-drop, All-map, All-same}
-use Rattle.std.proofs.lemmas.Option.{slice_get-get_or}
-use Rattle.std.specs.Prelude.{slice_index, replicate}
+use Rattle.std.proofs.lemmas.List.Elements.{All-drop, All-map, All-from_get_or}
+use Rattle.std.proofs.lemmas.List.FromFn.{length-map-range_with_len, get_or-map-range_with_len}
+use Rattle.std.specs.Prelude.{slice_index, if◌then◌else◌, option_map, nat_lt, int_lt}
+use Rattle.std.specs.Option.{option_map_or}
 use Rattle.std.specs.List.{flat_map}
+use Rattle.int_laws.specs.Matrices.{Entries}
+use Rattle.lists.specs.Listed.{listed}
 use Rattle.lists.specs.Order.{IsOrder}
+use Rattle.lists.specs.Results.{and_then, named, unless, or_else, first_value}
+use Rattle.lists.specs.Search.{first_below, any_below}
+use Rattle.lists.proofs.SearchLemmas.{Finds, first_below-finds}
 use Rattle.flex_interval.specs.Ends.{Ends}
 use Rattle.flex_interval.specs.declared.fault.Wide.{Wide}
 use Rattle.member_set.specs.declared.members.Built.{Built}
 use Rattle.member_set.specs.declared.members.Member.{Member}
-use Rattle.member_set.specs.Members.{IsModerate, system}
+use Rattle.member_set.specs.Members.{IsModerate, built_nodes, row_count, system}
 use Rattle.model_types.specs.Fits.{AreAnswersOf, AreModest, FitsModel, IsModest}
 use Rattle.model_types.specs.Lists.{Lists}
-use Rattle.model_types.specs.MemberCounts.{restraints_member_count}
 use Rattle.model_types.specs.declared.answers.Bounds.{Bounds}
 use Rattle.model_types.specs.declared.answers.CaseAnswer.{CaseAnswer}
 use Rattle.model_types.specs.declared.answers.CaseAnswer.TheVariants.{Certified, Uncertified}
-use Rattle.model_types.specs.declared.answers.Cause.{Cause}
-use Rattle.sym_blocks.specs.Matrix.{Matrix, node_count}
-use Rattle.solve.specs.Refinement.{Problem, LeadTo, size_of}
+use Rattle.cholesky_laws.specs.Recurrence.{scaled_stiffness, pivot}
+use Rattle.cholesky_laws.specs.Factor.{factor_of, node_fails, low_pivot, Breakdown, low, too_wide, breakdown_at}
+use Rattle.assembly.specs.Stiffness.{matrices_of, middle, wide_row}
+use Rattle.load_vectors.specs.Loads.{loads_of}
+use Rattle.solve.specs.Refinement.{Problem, problem, size_of, forward_side, backward_side}
+use Rattle.solve.specs.Turns.{unless_wide, turn_of, turns_of, moved_at, moved_by, middles_of, scale_of, forward_of, backward_of}
 use Rattle.certificate.specs.declared.bounds.Enclosure.{Enclosure}
-use Rattle.certificate.specs.Bounds.{BoundsAreLimited, HasLimitedEnds}
-use Rattle.certificate.specs.Checker.{test_of}
+use Rattle.certificate.specs.Bounds.{BoundsAreLimited, HasLimitedEnds, bounds_around, bounds_fail, enclosure_of}
+use Rattle.certificate.specs.Checker.{margin_by, test_by, row_refused}
 use Rattle.bound_laws.specs.Definiteness.{PassedTestIsProof}
 use Rattle.structure.specs.Anchors.{HasAnchorsAlone, restraint_members}
 use Rattle.structure.specs.Elements.{element_at, members_of_element, element_member_count}
-use Rattle.structure.specs.Structure.{IsStructureOf, Members, ModelsHaveTheirMembers, element_members, model_members, with_element, then_members}
-use Rattle.case_run.specs.Causes.{Plan, resting_laws, IsElementCause, first_element, IsMatrixCause, matrix_row, IsLoadCause, load_row, IsBreakdownCause, pivot, wide, IsSolveCause, refinement}
-use Rattle.case_run.specs.Certified.{AreCaseAnswers, IsCaseAnswer, IsCertified, IsUncertified, by_model, by_case, IsModelCause, no_structure, no_matrices, no_margin, IsOwnCause, no_loads, no_unshifted_factor, no_candidate, no_bounds, IsResidualCause, residual, ShiftFails, no_factor, row_fails, ShiftPasses, TellsBounds, bounds_of, last_place, shift_of}
+use Rattle.structure.specs.Structure.{Members, ModelsHaveTheirMembers, element_members, model_members, with_element, then_members, linear_structure, structure_of}
+use Rattle.case_run.specs.Answers.{Reason, because, element_reason, matrix_reason, breakdown_reason, margin_reason, load_reason, turns_reason, bounds_reason, factor_at, margin_at, margin_of, Base, base_of, enclosure_in, answer_with, answer_of, answers_of}
+use Rattle.case_run.specs.Causes.{Plan, resting_laws}
+use Rattle.case_run.specs.Certified.{bounds_of, last_place, shift_of}
+use Rattle.case_run.proofs.Searching.{nat_lt-yes, any_at}
+use Rattle.case_run.proofs.SoundnessLaw.{value_before, value_named, nothing_found, margin_definite, IsBase, is_base, AreAround, are_around}
 
--- ---- causes
+-- ---- errors in a chain
 
--- an answer without bounds, with nothing beside its cause
-abbrev FitsCause : Lists → Cause → Type 0
-FitsCause m cause = FitsModel m (Uncertified cause [])
+-- what holds of the errors of both steps of a chain holds of its own
+error_before : {A B E : Type 0} (P : E → Type 0) (o : Result A E) (next : A → Result B E) →
+    ((e : E) → o ≡ Err e → P e) → ((a : A) (e : E) → o ≡ Ok a → next a ≡ Err e → P e) → (e : E) → and_then o next ≡ Err e → P e
+error_before P (Ok a) next first second e is = second a e refl is
+error_before P (Err f) next first second e is = let same : f ≡ e = cc in subst P same (first f refl)
+
+error_named : {A E F : Type 0} (P : F → Type 0) (name : E → F) (o : Result A E) → ((e : E) → o ≡ Err e → P (name e)) → (f : F) → named name o ≡ Err f → P f
+error_named P name (Ok a) each f is = absurd (cc)
+error_named P name (Err e) each f is = let same : name e ≡ f = cc in subst P same (each e refl)
+
+error_of_two : {A E : Type 0} (o next : Result A E) (e : E) → or_else o next ≡ Err e → next ≡ Err e
+error_of_two (Ok a) next e is = absurd (cc)
+error_of_two (Err f) next e is = is
+
+-- where there is no value, the error is the last one
+last_error : {A E : Type 0} (n : ℕ) (f : ℕ → Result A E) (e : E) → first_value n f ≡ Err e → f n ≡ Err e
+last_error zero f e is = is
+last_error (suc n) f e is = error_of_two (first_value n f) (f (suc n)) e is
+
+found_error : {A E : Type 0} (o : Option E) (a : A) (e : E) → unless o a ≡ Err e → o ≡ Some e
+found_error None a e is = absurd (cc)
+found_error (Some f) a e is = let same : f ≡ e = cc in ap (λ x. Some x) same
+
+-- what a search finds is below its end
+found_below : (n : ℕ) (test : ℕ → Bool) (k : ℕ) → first_below n test ≡ Some k → k < n
+found_below n test k is = (subst (Finds n test) is (first_below-finds n test)).in_range
+
+-- ---- the structure
 
 -- with the members of one more element the first wide element is still among those so far
 wide_next : (n number : ℕ) (before : Members) (made : Result (List Member) Wide) → ((k : ℕ) → before ≡ Err k → k < n) → then_members before (with_element n made) ≡ Err number → number < suc n
@@ -59,71 +94,118 @@ wide_element : (m : Lists) (number : ℕ) → model_members m ≡ Err number →
 unfolding model_members
 wide_element m number e = wide_below m (length m.elements) number (fault_before (element_members m (length m.elements)) (flat_map restraint_members m.restraints) number e)
 
+abbrev between : ℕ → Members → Result Built ℕ
+between nodes made = and_then made (λ members. Ok (linear_structure nodes members))
+
+no_structure : (nodes : ℕ) (made : Members) (number : ℕ) → between nodes made ≡ Err number → made ≡ Err number
+no_structure nodes (Ok members) number is = absurd (cc)
+no_structure nodes (Err k) number is = let same : k ≡ number = cc in ap (λ x. Err x) same
+
+abbrev made_of : List Member → Members
+made_of members = Ok members
+
+-- it has the members of the model, and its nodes
+a_structure : (nodes : ℕ) (made : Members) (b : Built) → between nodes made ≡ Ok b → (made ≡ Ok b.members) × (built_nodes b ≡ nodes)
+a_structure nodes (Ok members) b is =
+    let same : linear_structure nodes members ≡ b = cc in
+    subst (λ (c : Built). (made_of members ≡ Ok c.members) × (built_nodes c ≡ nodes)) same (refl, length-map-range_with_len _ 0 nodes)
+a_structure nodes (Err k) b is = absurd (cc)
+
+-- ---- causes
+
+-- the reason names records of the model, and has no guess
+abbrev FitsReason : Lists → Reason → Type 0
+FitsReason m reason = FitsModel m (Uncertified reason.cause reason.guess)
+
+element_fits : (m : Lists) (number : ℕ) → structure_of m ≡ Err number → FitsReason m (element_reason number)
+element_fits m number is = (wide_element m number (no_structure (length m.nodes) (model_members m) number is), refl)
+
 -- the node and the freedom of a row
 row_inside : (row nodes : ℕ) → row < 6 * nodes → (row / 6 < nodes) × (row % 6 < 6)
 row_inside row nodes inside = (omega (arith, inside), omega arith)
 
+matrix_fits : (m : Lists) (b : Built) (row : ℕ) → structure_of m ≡ Ok b → matrices_of b ≡ Err row → FitsReason m (matrix_reason row)
+matrix_fits m b row structure is =
+    let inside = found_below (row_count b) _ row (found_error (wide_row b) _ row is) in
+    let nodes = (a_structure (length m.nodes) (model_members m) b structure).1 in
+    (row_inside row (length m.nodes) (omega (arith, inside, nodes)), refl)
+
+load_fits : (m : Lists) (case row : ℕ) → loads_of m case ≡ Err row → FitsReason m (load_reason row)
+load_fits m case row is = (row_inside row (length m.nodes) (found_below (6 * length m.nodes) _ row (found_error _ _ row is)), refl)
+
 -- the node at a place of an order of the model's nodes is one of them
-node_inside : (order : List ℕ) (place node nodes : ℕ) → IsOrder order → length order ≡ nodes → place < length order → slice_index order place ≡ node → node < nodes
-node_inside order place node nodes ordered count inside is = omega (arith, ordered.spread.in_range place inside, count, is)
+node_inside : (order : List ℕ) (place nodes : ℕ) → IsOrder order → length order ≡ nodes → place < length order → slice_index order place < nodes
+node_inside order place nodes ordered count inside = omega (arith, ordered.spread.in_range place inside, count)
 
-element_fits : (m : Lists) (cause : Cause) → IsElementCause m cause → FitsCause m cause
-element_fits m cause (first_element number is) = (wide_element m number is, refl)
+named_breakdown : (m : Lists) (node : ℕ) (freedom : Option ℕ) → node < length m.nodes → ((f : ℕ) → freedom ≡ Some f → f < 6) →
+    FitsReason m (breakdown_reason (option_map_or (low node) freedom (too_wide node)))
+named_breakdown m node None inside below = (inside, refl)
+named_breakdown m node (Some f) inside below = ((inside, below f refl), refl)
 
-matrix_fits : (m : Lists) (b : Built) (cause : Cause) → IsStructureOf m b → IsMatrixCause b cause → FitsCause m cause
-matrix_fits m b cause structure (matrix_row row first) = (row_inside row (length m.nodes) (subst (λ n. row < 6 * n) structure.nodes first.in_range), refl)
+found_mapped : {A B : Type 0} (f : A → B) (o : Option A) (b : B) → option_map f o ≡ Some b → (a : A) × (o ≡ Some a) × (f a ≡ b)
+found_mapped f None b is = absurd (cc)
+found_mapped f (Some a) b is = (a, refl, cc)
 
-load_fits : (m : Lists) (case : ℕ) (cause : Cause) → IsLoadCause m case cause → FitsCause m cause
-load_fits m case cause (load_row row first) = (row_inside row (length m.nodes) first.in_range, refl)
+breakdown_fits : (m : Lists) (a : Entries) (p : Plan) (breakdown : Breakdown) → IsOrder p.order → length p.order ≡ length m.nodes →
+    factor_of a p.order p.parents ≡ Err breakdown → FitsReason m (breakdown_reason breakdown)
+breakdown_fits m a p breakdown ordered count is =
+    let fails = node_fails a p.parents (length p.order) in
+    let found = found_mapped (breakdown_at a p.order) (first_below (length p.order) fails) breakdown (found_error _ _ breakdown is) in
+    let inside = found_below (length p.order) fails found.0 found.1 in
+    subst (λ (b : Breakdown). FitsReason m (breakdown_reason b)) found.2
+    (named_breakdown m (slice_index p.order found.0) (low_pivot a found.0) (node_inside p.order found.0 (length m.nodes) ordered count inside) (λ f is. found_below 6 (λ freedom. int_lt (pivot a (6 * found.0 + freedom)) (pos 1)) f is))
 
-solve_fits : (m : Lists) (p : Problem) (cause : Cause) → IsSolveCause p cause → FitsCause m cause
-solve_fits m p cause (refinement breaks) = (tt, refl)
+factor_fits : (m : Lists) (p : Plan) (middles : Entries) (shift : ℤ) → IsOrder p.order → length p.order ≡ length m.nodes →
+    (reason : Reason) → factor_at p middles shift ≡ Err reason → FitsReason m reason
+factor_fits m p middles shift ordered count =
+    error_named (FitsReason m) breakdown_reason (factor_of (scaled_stiffness middles p.order shift) p.order p.parents)
+    (λ breakdown is. breakdown_fits m (scaled_stiffness middles p.order shift) p breakdown ordered count is)
 
-residual_fits : (m : Lists) (b : Built) (loads : List Ends) (u : List ℤ) (lambda : ℤ) (cause : Cause) → IsResidualCause b loads u lambda cause → FitsCause m cause
-residual_fits m b loads u lambda cause (residual none) = (tt, refl)
+shift_fits : (m : Lists) (p : Plan) (middles radii : Entries) (shift : ℤ) → IsOrder p.order → length p.order ≡ length m.nodes →
+    (reason : Reason) → margin_at p middles radii shift ≡ Err reason → FitsReason m reason
+shift_fits m p middles radii shift ordered count =
+    error_before (FitsReason m) (factor_at p middles shift) (λ factor. named margin_reason (margin_by (test_by middles radii p.order factor shift)))
+    (factor_fits m p middles shift ordered count)
+    (λ factor reason _ is.
+    let t = test_by middles radii p.order factor shift in
+    error_named (FitsReason m) margin_reason (margin_by t)
+    (λ row is. (row_inside row (length m.nodes) (omega (arith, count, found_below t.size (row_refused t) row (found_error _ _ row is))), refl))
+    reason is)
 
-broken_fits : (m : Lists) (p : Plan) (middles : Matrix) (shift : ℤ) (cause : Cause) → IsOrder p.order → length p.order ≡ length m.nodes → IsBreakdownCause p middles shift cause → FitsCause m cause
-broken_fits m p middles shift cause ordered count (pivot node dof broken) =
-    let place = broken.0 in
-    let here = broken.2 in
-    let inside : place < length p.order = omega (arith, here.2.column) in
-    ((node_inside p.order place node (length m.nodes) ordered count inside here.0, here.1), refl)
-broken_fits m p middles shift cause ordered count (wide node broken) =
-    let here = broken.2 in
-    (node_inside p.order broken.0 node (length m.nodes) ordered count here.1.node here.0, refl)
+margin_fits : (m : Lists) (p : Plan) (middles radii : Entries) → IsOrder p.order → length p.order ≡ length m.nodes →
+    (reason : Reason) → margin_of p middles radii ≡ Err reason → FitsReason m reason
+margin_fits m p middles radii ordered count reason is =
+    shift_fits m p middles radii (shift_of last_place) ordered count reason (last_error last_place (λ place. margin_at p middles radii (shift_of place)) reason is)
 
-shift_fits : (m : Lists) (p : Plan) (middles radii : Matrix) (shift : ℤ) (cause : Cause) → IsOrder p.order → length p.order ≡ length m.nodes → node_count middles ≡ length m.nodes
-    → ShiftFails p middles radii shift cause → FitsCause m cause
-shift_fits m p middles radii shift cause ordered count nodes (no_factor c broken) = broken_fits m p middles shift c ordered count broken
-shift_fits m p middles radii shift cause ordered count nodes (row_fails factor row factorised verdict) = (row_inside row (length m.nodes) (subst (λ n. row < 6 * n) nodes verdict.0), refl)
+-- the records that a reason of the whole model names are the model's
+base_fits : (m : Lists) (p : Plan) → IsOrder p.order → length p.order ≡ length m.nodes → (reason : Reason) → base_of m p ≡ Err reason → FitsReason m reason
+base_fits m p ordered count =
+    error_before (FitsReason m) (named element_reason (structure_of m)) _
+    (error_named (FitsReason m) element_reason (structure_of m) (element_fits m))
+    (λ b reason is_b.
+    error_before (FitsReason m) (named matrix_reason (matrices_of b)) _
+    (error_named (FitsReason m) matrix_reason (matrices_of b) (λ row is. matrix_fits m b row (value_named element_reason (structure_of m) b is_b) is))
+    (λ matrices reason _.
+    error_before (FitsReason m) (margin_of p matrices.0 matrices.1) _ (margin_fits m p matrices.0 matrices.1 ordered count) (λ lambda reason _ is. absurd (cc)) reason)
+    reason)
 
--- the records that a cause of the whole model names are the model's
-model_fits : (m : Lists) (p : Plan) (cause : Cause) → IsOrder p.order → length p.order ≡ length m.nodes → IsModelCause m p cause → FitsCause m cause
-model_fits m p cause ordered count (no_structure first) = element_fits m cause first
-model_fits m p cause ordered count (no_matrices b structure first) = matrix_fits m b cause structure first
-model_fits m p cause ordered count (no_margin b middles radii structure assembled none) =
-    shift_fits m p middles radii (shift_of last_place) cause ordered count (assembled.middles_nodes ∙ structure.nodes) none.fails
-
--- and those that a cause of the case's own names
-own_fits : (m : Lists) (case : ℕ) (p : Plan) (b : Built) (middles : Matrix) (lambda : ℤ) (cause : Cause) → IsOrder p.order → length p.order ≡ length m.nodes
-    → IsOwnCause m case p b middles lambda cause → FitsCause m cause
-own_fits m case p b middles lambda cause ordered count (no_loads first) = load_fits m case cause first
-own_fits m case p b middles lambda cause ordered count (no_unshifted_factor loads loaded broken) = broken_fits m p middles (pos 0) cause ordered count broken
-own_fits m case p b middles lambda cause ordered count (no_candidate loads factor loaded factorised breaks) = solve_fits m _ cause breaks
-own_fits m case p b middles lambda cause ordered count (no_bounds loads u candidate none) = residual_fits m b loads u lambda cause none
-
-cause_fits : (m : Lists) (case : ℕ) (p : Plan) (cause : Cause) → IsOrder p.order → length p.order ≡ length m.nodes → IsUncertified m case p cause → FitsCause m cause
-cause_fits m case p cause ordered count (by_model of) = model_fits m p cause ordered count of
-cause_fits m case p cause ordered count (by_case b middles lambda certifiable of) = own_fits m case p b middles lambda cause ordered count of
+-- and those that a reason of the case's own names
+own_fits : (m : Lists) (p : Plan) (case : ℕ) (shared : Base) → IsOrder p.order → length p.order ≡ length m.nodes →
+    (reason : Reason) → enclosure_in m p case shared ≡ Err reason → FitsReason m reason
+own_fits m p case shared ordered count =
+    error_before (FitsReason m) (named load_reason (loads_of m case)) _
+    (error_named (FitsReason m) load_reason (loads_of m case) (load_fits m case))
+    (λ loads reason _.
+    error_before (FitsReason m) (factor_at p (middle shared.structure) (pos 0)) _ (factor_fits m p (middle shared.structure) (pos 0) ordered count)
+    (λ factor reason _.
+    let s = system shared.structure (resting_laws shared.structure) loads in
+    error_before (FitsReason m) (named (λ _. turns_reason) (turns_of (problem s p.order factor) 8)) _
+    (error_named (FitsReason m) (λ _. turns_reason) (turns_of (problem s p.order factor) 8) (λ wide is. (tt, refl)))
+    (λ u reason _. error_named (FitsReason m) (λ _. bounds_reason) (bounds_around s u shared.lambda) (λ wide is. (tt, refl)) reason)
+    reason)
+    reason)
 
 -- ---- bounds
-
--- a margin is positive
-margin_up : PassedTestIsProof → (p : Plan) (middles radii : Matrix) (shift lambda : ℤ) → ShiftPasses p middles radii shift lambda → pos 1 ≤ℤ lambda
-margin_up passed_test p middles radii shift lambda passes =
-    let t = test_of middles radii passes.factor shift in
-    let verdict = passes.verdict in
-    (passed_test t lambda (omega (arith, ints)) (λ i inside fails. verdict.0 i inside (inr fails)) verdict.1).0
 
 abbrev HasModestEnds : Ends → Type 0
 HasModestEnds e = IsModest e.lo × IsModest e.hi
@@ -131,45 +213,91 @@ HasModestEnds e = IsModest e.lo × IsModest e.hi
 limited_modest : (es : List Ends) → All HasLimitedEnds es → All HasModestEnds es
 limited_modest es limited = λ k d inside. (omega (arith, (limited k d inside).0), omega (arith, (limited k d inside).1))
 
--- the candidate has a number for each row, none of them past 2^60
-turned : (p : Problem) (n : ℕ) (u : List ℤ) → LeadTo p (suc n) u → (length u ≡ size_of p) × IsModerate u
-turned p n u (before, reached, turn) = (turn.moved.one_each, turn.moderate)
+told_modest : (es : List Ends) → All HasModestEnds es → AreModest (map bounds_of es)
+told_modest es modest = All-map (λ (b : Bounds). IsModest b.lo × IsModest b.hi) bounds_of es modest
 
-told_modest : (bounds : List Bounds) (es : List Ends) → bounds ≡ map bounds_of es → All HasModestEnds es → AreModest bounds
-told_modest bounds es same modest =
-    All-same (λ (b : Bounds). IsModest b.lo × IsModest b.hi) bounds (map bounds_of es) same (All-map (λ (b : Bounds). IsModest b.lo × IsModest b.hi) bounds_of es modest)
+unless_value : {A : Type 0} (leaves : Bool) (x a : A) → unless_wide leaves x ≡ Ok a → (leaves ≡ false) × (x ≡ a)
+unless_value true x a is = absurd (cc)
+unless_value false x a is = (refl, cc)
 
-certified_fits : PassedTestIsProof → BoundsAreLimited → ModelsHaveTheirMembers → (m : Lists) (case : ℕ) (p : Plan) (u loads : List Bounds) (states : List Bool) (e : Enclosure) → HasAnchorsAlone m
-    → IsCertified m case p e → TellsBounds (element_member_count m) e (Certified u loads states) → FitsModel m (Certified u loads states)
-certified_fits passed_test limits counts m case p u loads states e anchors certified (displacements, forces, none) =
-    let b = certified.b in
-    let structure = certified.model.structure in
-    let own = certified.enclosure in
-    let bounds = own.bounds in
-    let one = margin_up passed_test p certified.middles certified.model.radii (shift_of certified.model.margin.place) certified.lambda certified.model.margin.passes in
-    let candidate = turned _ 7 own.u own.candidate.candidate in
-    let first = element_member_count m in
-    let limited = limits (system b (resting_laws b) own.loads) own.u certified.lambda e one candidate.0 candidate.1 bounds in
-    let members = counts m b.members anchors structure.members in (
-      omega (arith, ap length displacements, length-map e.u bounds_of, bounds.one_displacement_each, structure.nodes),
-      omega (arith, ap length forces, length-map (drop first e.force) bounds_of, length-drop first e.force, bounds.one_force_each, members),
-      told_modest u e.u displacements (limited_modest e.u limited.0),
-      told_modest loads (drop first e.force) forces (All-drop HasModestEnds first e.force (limited_modest e.force limited.1)),
+-- where a test holds nowhere below n, a number at which it would hold isn't below n
+any_there : (n : ℕ) (test : ℕ → Bool) (k : ℕ) → k < n → test k ≡ true → any_below n test ≡ false → ⊥
+any_there n test k inside holds none = false≢true (sym none ∙ any_at n test k inside holds)
+
+moderate : (p : Problem) (u z v : List ℤ) → moved_by p u z ≡ Ok v → (length v ≡ size_of p) × IsModerate v
+moderate p u z v is =
+    let made = unless_value _ (listed (size_of p) (moved_at p u z)) v is in
+    subst (λ (w : List ℤ). (length w ≡ size_of p) × IsModerate w) made.1 (
+      length-map-range_with_len _ 0 (size_of p),
+      All-from_get_or (λ (x : ℤ). unsigned_abs x ≤ 2 ^ 60) (listed (size_of p) (moved_at p u z)) (pos 0)
+      (λ row inside.
+      let below : row < size_of p = omega (arith, inside, length-map-range_with_len (moved_at p u z) 0 (size_of p)) in
+      subst (λ (x : ℤ). unsigned_abs x ≤ 2 ^ 60) (sym (get_or-map-range_with_len (moved_at p u z) 0 (size_of p) row row (pos 0) below (omega arith)))
+      (elim (cases_lt (2 ^ 60) (unsigned_abs (moved_at p u z row))) [
+        | inl far ↦ absurd (any_there (size_of p) (λ i. nat_lt (2 ^ 60) (unsigned_abs (moved_at p u z i))) row below (nat_lt-yes _ _ far) made.0)
+        | inr near ↦ near
+      ])),
+    )
+
+-- a turn makes a number for each row, none of them past 2^60
+turned : (p : Problem) (u v : List ℤ) → turn_of p u ≡ Ok v → (length v ≡ size_of p) × IsModerate v
+turned p u v is =
+    let r = value_before (middles_of p u) _ v is in
+    let digits = value_before (scale_of r.0) _ v r.2 in
+    let y = value_before (forward_of (size_of p) p.factor (forward_side p.order r.0 digits.0)) _ v digits.2 in
+    let z = value_before (backward_of (size_of p) p.factor (backward_side y.0 digits.0)) (moved_by p u) v y.2 in
+    moderate p u z.0 v z.2
+
+candidate : (p : Problem) (n : ℕ) (u : List ℤ) → turns_of p (suc n) ≡ Ok u → (length u ≡ size_of p) × IsModerate u
+candidate p n u is = let before = value_before (turns_of p n) (turn_of p) u is in turned p before.0 u before.2
+
+certified_fits : PassedTestIsProof → BoundsAreLimited → ModelsHaveTheirMembers → (m : Lists) (p : Plan) (case : ℕ) (e : Enclosure) → HasAnchorsAlone m →
+    0 < length p.order → and_then (base_of m p) (enclosure_in m p case) ≡ Ok e → FitsModel m (answer_with (element_member_count m) (Ok e))
+certified_fits passed_test limits counts m p case e anchors some given =
+    let chain = value_before (base_of m p) (enclosure_in m p case) e given in
+    let shared = chain.0 in
+    let is = is_base m p shared chain.1 in
+    let around = are_around m p case shared e chain.2 in
+    let b = shared.structure in
+    let s = system b (resting_laws b) around.loads in
+    let structure = a_structure (length m.nodes) (model_members m) b is.structure in
+    let members = counts m b.members anchors structure.0 in
+    let margin = margin_definite passed_test p is.middles is.radii shared.lambda some is.margin in
+    let moved = candidate (problem s p.order around.factor) 7 around.u around.turned in
+    let limited = limits s around.u shared.lambda e margin.positive moved.0 moved.1 around.bounds in
+    let same = (unless_value (bounds_fail s around.u shared.lambda) (enclosure_of s around.u shared.lambda) e around.bounds).1 in
+    let displacements : length e.u ≡ row_count b = sym (ap (λ (x : Enclosure). length x.u) same) ∙ length-map-range_with_len _ 0 (row_count b) in
+    let forces : length e.force ≡ length b.members = sym (ap (λ (x : Enclosure). length x.force) same) ∙ length-map-range_with_len _ 0 (length b.members) in
+    let first = element_member_count m in (
+      omega (arith, length-map e.u bounds_of, displacements, structure.1),
+      omega (arith, length-map (drop first e.force) bounds_of, length-drop first e.force, forces, members),
+      told_modest e.u (limited_modest e.u limited.0),
+      told_modest (drop first e.force) (All-drop HasModestEnds first e.force (limited_modest e.force limited.1)),
     )
 
 -- ---- the answers
 
-answer_fits : PassedTestIsProof → BoundsAreLimited → ModelsHaveTheirMembers → (m : Lists) (case : ℕ) (p : Plan) (a : CaseAnswer) → HasAnchorsAlone m
-    → IsOrder p.order → length p.order ≡ length m.nodes → IsCaseAnswer m case p a → FitsModel m a
-answer_fits passed_test limits counts m case p (Certified u loads states) anchors ordered count (e, certified, tells) =
-    certified_fits passed_test limits counts m case p u loads states e anchors certified tells
-answer_fits passed_test limits counts m case p (Uncertified cause guess) anchors ordered count (uncertified, none) =
-    subst (λ beside. FitsModel m (Uncertified cause beside)) (sym none) (cause_fits m case p cause ordered count uncertified)
+with_fits : (m : Lists) (first : ℕ) (o : Result Enclosure Reason) → ((e : Enclosure) → o ≡ Ok e → FitsModel m (answer_with first (Ok e))) →
+    ((reason : Reason) → o ≡ Err reason → FitsReason m reason) → FitsModel m (answer_with first o)
+with_fits m first (Ok e) bounds cause = bounds e refl
+with_fits m first (Err reason) bounds cause = cause reason refl
+
+answer_fits : PassedTestIsProof → BoundsAreLimited → ModelsHaveTheirMembers → (m : Lists) (p : Plan) (case : ℕ) → HasAnchorsAlone m →
+    0 < length p.order → IsOrder p.order → length p.order ≡ length m.nodes → FitsModel m (answer_of m p case)
+answer_fits passed_test limits counts m p case anchors some ordered count =
+    with_fits m (element_member_count m) (and_then (base_of m p) (enclosure_in m p case))
+    (λ e is. certified_fits passed_test limits counts m p case e anchors some is)
+    (error_before (FitsReason m) (base_of m p) (enclosure_in m p case) (base_fits m p ordered count)
+    (λ shared reason _. own_fits m p case shared ordered count reason))
 
 -- the answers of the cases of a model are answers of it
-pub answers_fit : PassedTestIsProof → BoundsAreLimited → ModelsHaveTheirMembers → (m : Lists) (p : Plan) (answers : List CaseAnswer) → HasAnchorsAlone m
-    → IsOrder p.order → length p.order ≡ length m.nodes → AreCaseAnswers m p answers → AreAnswersOf m answers
-answers_fit passed_test limits counts m p answers anchors ordered count are = record {
-  one_each = are.one_each;
-  fit = λ case d inside. answer_fits passed_test limits counts m case p (get_or answers case d) anchors ordered count (are.answer case (get_or answers case d) (slice_get-get_or answers case d inside));
+pub answers_fit : PassedTestIsProof → BoundsAreLimited → ModelsHaveTheirMembers → (m : Lists) (p : Plan) → HasAnchorsAlone m →
+    0 < length p.order → IsOrder p.order → length p.order ≡ length m.nodes → AreAnswersOf m (answers_of m p)
+answers_fit passed_test limits counts m p anchors some ordered count = record {
+  one_each = length-map-range_with_len (answer_of m p) 0 (length m.cases);
+  fit = All-from_get_or (FitsModel m) (answers_of m p) (Uncertified turns_reason.cause [])
+      (λ case inside.
+      let below : case < length m.cases = omega (arith, inside, length-map-range_with_len (answer_of m p) 0 (length m.cases)) in
+      subst (FitsModel m) (sym (get_or-map-range_with_len (answer_of m p) 0 (length m.cases) case case _ below (omega arith)))
+      (answer_fits passed_test limits counts m p case anchors some ordered count));
 }

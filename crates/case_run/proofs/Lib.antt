@@ -1,9 +1,7 @@
 pub mod Matrices
-pub mod Faults
 pub mod Definite
 pub mod Sharing
 pub mod Telling
-pub mod Lists
 pub mod Searching
 pub mod GivenFactor
 pub mod GivenMargin

@@ -1,7 +1,7 @@
 -- What all cases share: the factor's shape, and that the structure with its laws and loads is a system.
 use Rattle.std.proofs.Common.{◌≡◌, ℕ, ◌*◌, ◌<◌, ap, ◌∙◌, sym, subst, arith, List, Result, Ok, Err, length}
 use Rattle.std.proofs.Math.ListN.{length-replicate}
-use Rattle.std.specs.Prelude.{IfOk, MatchResult, ℤ}
+use Rattle.std.specs.Prelude.{IfOk}
 use Rattle.flex_interval.specs.Ends.{Ends}
 use Rattle.member_set.specs.declared.members.Built.{Built}
 use Rattle.member_set.specs.declared.members.Law.{Law}
@@ -10,19 +10,18 @@ use Rattle.member_set.specs.Members.{IsSystem, built_nodes as nodes_of, load_of,
 use Rattle.member_set.specs.Realisation.{Realisation, IsRealisation}
 use Rattle.model_types.specs.Lists.{Lists}
 use Rattle.model_types.specs.declared.answers.Cause.{Cause}
-use Rattle.sym_blocks.specs.Matrix.{Matrix}
 use Rattle.lists.specs.Order.{IsOrder}
 use Rattle.structure.specs.Structure.{IsStructureOf}
 use Rattle.load_vectors.specs.Loads.{AreLoads}
-use Rattle.case_run.specs.Causes.{Plan, resting_laws, IsFactorAt}
+use Rattle.case_run.specs.Causes.{resting_laws}
 use Rattle.factor_data.specs.Columns.{ColumnLists, HasDiagonal}
 use Rattle.case_run.specs.Steps.{IsFactorFor}
 
-pub factor_for : (b : Built) (p : Plan) (middles : Matrix) (shift : ℤ) (Q : Cause → Type 0) (r : Result ColumnLists Cause) →
-    length p.order ≡ nodes_of b → IsOrder p.order → MatchResult r (IsFactorAt p middles shift) Q → IfOk r HasDiagonal → IfOk r (IsFactorFor b)
-factor_for b p middles shift Q (Ok f) nodes ordered factor diagonal =
-    record { ordered = subst (λ (o : List ℕ). IsOrder o) (sym factor.order_is) ordered; nodes_are = ap (λ (xs : List ℕ). length xs) factor.order_is ∙ nodes; diagonal = diagonal }
-factor_for b p middles shift Q (Err cause) nodes ordered factor diagonal = diagonal
+pub factor_for : (b : Built) (order : List ℕ) (r : Result ColumnLists Cause) →
+    length order ≡ nodes_of b → IsOrder order → IfOk r (λ f. f.order ≡ order) → IfOk r HasDiagonal → IfOk r (IsFactorFor b)
+factor_for b order (Ok f) nodes ordered same diagonal =
+    record { ordered = subst (λ (o : List ℕ). IsOrder o) (sym same) ordered; nodes_are = ap (λ (xs : List ℕ). length xs) same ∙ nodes; diagonal = diagonal }
+factor_for b order (Err cause) nodes ordered same diagonal = diagonal
 
 -- the structure with its laws and loads is a system
 pub is_system : (m : Lists) (case : ℕ) (b : Built) (laws : List Law) (loads : List Ends) →

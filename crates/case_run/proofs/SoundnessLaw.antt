@@ -43,11 +43,11 @@ use Rattle.case_run.proofs.Telling.{told_holds}
 -- ---- results in a chain
 
 -- a chain that has a value has one of its first step
-value_before : {A B E : Type 0} (o : Result A E) (next : A → Result B E) (b : B) → and_then o next ≡ Ok b → (a : A) × (o ≡ Ok a) × (next a ≡ Ok b)
+pub value_before : {A B E : Type 0} (o : Result A E) (next : A → Result B E) (b : B) → and_then o next ≡ Ok b → (a : A) × (o ≡ Ok a) × (next a ≡ Ok b)
 value_before (Ok a) next b is = (a, refl, is)
 value_before (Err e) next b is = absurd (cc)
 
-value_named : {A E F : Type 0} (name : E → F) (o : Result A E) (a : A) → named name o ≡ Ok a → o ≡ Ok a
+pub value_named : {A E F : Type 0} (name : E → F) (o : Result A E) (a : A) → named name o ≡ Ok a → o ≡ Ok a
 value_named {A} name (Ok x) a is = (let same : x ≡ a = cc in ap (λ (z : A). Ok z) same)
 value_named name (Err e) a is = absurd (cc)
 
@@ -62,7 +62,7 @@ one_value (suc n) f a is = elim (value_of_two (first_value n f) (f (suc n)) a is
 
 -- ---- the margin
 
-nothing_found : {A E : Type 0} (o : Option E) (x a : A) → unless o x ≡ Ok a → (o ≡ None) × (x ≡ a)
+pub nothing_found : {A E : Type 0} (o : Option E) (x a : A) → unless o x ≡ Ok a → (o ≡ None) × (x ≡ a)
 nothing_found None x a is = (refl, cc)
 nothing_found (Some e) x a is = absurd (cc)
 
@@ -89,16 +89,16 @@ margin_proves passed t lambda positive some given =
     passed t lambda positive (no_row_fails t found.0) (is_margin t lambda some found.1)
 
 -- a test of the middles and radii proves every matrix within them definite
-record IsProved (rows : ℕ) (own_middles own_radii : Entries) (lambda : ℤ) : Type 0 where
-  test : CholeskyTest
-  size : test.size ≡ rows
-  middles : test.middle ≡ own_middles
-  radii : test.radius ≡ own_radii
-  positive : pos 1 ≤ℤ lambda
-  definite : EachIsDefiniteWith test lambda
+pub record IsProved (rows : ℕ) (own_middles own_radii : Entries) (lambda : ℤ) : Type 0 where
+  pub test : CholeskyTest
+  pub size : test.size ≡ rows
+  pub middles : test.middle ≡ own_middles
+  pub radii : test.radius ≡ own_radii
+  pub positive : pos 1 ≤ℤ lambda
+  pub definite : EachIsDefiniteWith test lambda
 
 -- the margin of the first shift that has one is such a proof
-margin_definite : PassedTestIsProof → (p : Plan) (middles radii : Entries) (lambda : ℤ) → 0 < length p.order → margin_of p middles radii ≡ Ok lambda →
+pub margin_definite : PassedTestIsProof → (p : Plan) (middles radii : Entries) (lambda : ℤ) → 0 < length p.order → margin_of p middles radii ≡ Ok lambda →
     IsProved (6 * length p.order) middles radii lambda
 margin_definite passed p middles radii lambda some given =
     let place = one_value last_place (λ k. margin_at p middles radii (shift_of k)) lambda given in
@@ -111,12 +111,12 @@ margin_definite passed p middles radii lambda some given =
 -- ---- what the cases share, and the bounds of a case
 
 -- the structure of the model, its matrices and their margin
-record IsBase (m : Lists) (p : Plan) (shared : Base) : Type 0 where
-  structure : structure_of m ≡ Ok shared.structure
-  middles : Entries
-  radii : Entries
-  matrices : matrices_of shared.structure ≡ Ok (middles, radii)
-  margin : margin_of p middles radii ≡ Ok shared.lambda
+pub record IsBase (m : Lists) (p : Plan) (shared : Base) : Type 0 where
+  pub structure : structure_of m ≡ Ok shared.structure
+  pub middles : Entries
+  pub radii : Entries
+  pub matrices : matrices_of shared.structure ≡ Ok (middles, radii)
+  pub margin : margin_of p middles radii ≡ Ok shared.lambda
 
 abbrev from_margin : Built → ℤ → Result Base Reason
 from_margin b lambda = Ok (base b lambda)
@@ -127,7 +127,7 @@ from_matrices p b matrices = and_then (margin_of p matrices.0 matrices.1) (from_
 abbrev from_structure : Plan → Built → Result Base Reason
 from_structure p b = and_then (named matrix_reason (matrices_of b)) (from_matrices p b)
 
-is_base : (m : Lists) (p : Plan) (shared : Base) → base_of m p ≡ Ok shared → IsBase m p shared
+pub is_base : (m : Lists) (p : Plan) (shared : Base) → base_of m p ≡ Ok shared → IsBase m p shared
 is_base m p shared is =
     let structure = value_before (named element_reason (structure_of m)) (from_structure p) shared is in
     let b = structure.0 in
@@ -147,11 +147,13 @@ is_base m p shared is =
     same_value x y is = cc
 
 -- the bounds around some displacements under the loads of the case
-record AreAround (m : Lists) (case : ℕ) (shared : Base) (e : Enclosure) : Type 0 where
-  loads : List Ends
-  u : List ℤ
-  loaded : loads_of m case ≡ Ok loads
-  bounds : bounds_around (system shared.structure (resting_laws shared.structure) loads) u shared.lambda ≡ Ok e
+pub record AreAround (m : Lists) (p : Plan) (case : ℕ) (shared : Base) (e : Enclosure) : Type 0 where
+  pub loads : List Ends
+  pub factor : Entries
+  pub u : List ℤ
+  pub turned : turns_of (problem (system shared.structure (resting_laws shared.structure) loads) p.order factor) 8 ≡ Ok u
+  pub loaded : loads_of m case ≡ Ok loads
+  pub bounds : bounds_around (system shared.structure (resting_laws shared.structure) loads) u shared.lambda ≡ Ok e
 
 abbrev from_turns : Base → List Ends → List ℤ → Result Enclosure Reason
 from_turns shared loads u = named (λ _. bounds_reason) (bounds_around (system shared.structure (resting_laws shared.structure) loads) u shared.lambda)
@@ -163,7 +165,7 @@ from_factor p shared loads factor =
 abbrev from_loads : Plan → Base → List Ends → Result Enclosure Reason
 from_loads p shared loads = and_then (factor_at p (middle shared.structure) (pos 0)) (from_factor p shared loads)
 
-are_around : (m : Lists) (p : Plan) (case : ℕ) (shared : Base) (e : Enclosure) → enclosure_in m p case shared ≡ Ok e → AreAround m case shared e
+pub are_around : (m : Lists) (p : Plan) (case : ℕ) (shared : Base) (e : Enclosure) → enclosure_in m p case shared ≡ Ok e → AreAround m p case shared e
 are_around m p case shared e is =
     let loads = value_before (named load_reason (loads_of m case)) (from_loads p shared) e is in
     let factor = value_before (factor_at p (middle shared.structure) (pos 0)) (from_factor p shared loads.0) e loads.2 in
@@ -171,7 +173,9 @@ are_around m p case shared e is =
     let u = value_before (named (λ _. turns_reason) (turns_of (problem s p.order factor.0) 8)) (from_turns shared loads.0) e factor.2 in
     record {
       loads = loads.0;
+      factor = factor.0;
       u = u.0;
+      turned = value_named (λ _. turns_reason) (turns_of (problem s p.order factor.0) 8) u.0 u.1;
       loaded = value_named load_reason (loads_of m case) loads.0 loads.1;
       bounds = value_named (λ _. bounds_reason) (bounds_around s u.0 shared.lambda) e u.2;
     }
@@ -213,7 +217,7 @@ certified_holds passed matrices_hold every_member bounds_hold stiff m p case e m
 
 with_holds : (m : Lists) (case : ℕ) (o : Result Enclosure Reason) → ((e : Enclosure) → o ≡ Ok e → OfEquilibria m case (EnclosesEquilibrium e)) →
     HoldsAlways m case (answer_with (element_member_count m) o)
-with_holds m case (Ok e) holds = told_holds m case e (answer_with (element_member_count m) (Ok e)) (refl, refl, refl) (holds e refl)
+with_holds m case (Ok e) holds = told_holds m case e (holds e refl)
 with_holds m case (Err reason) holds = tt
 
 pub answer_holds : PassedTestIsProof → MatricesHold → LinearIsEveryMember → BoundsHold → StructuresAreStiff → AnswerHolds

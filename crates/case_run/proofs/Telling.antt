@@ -1,5 +1,5 @@
 -- What an answer says that tells the bounds of an enclosure.
-use Rattle.std.proofs.Common.{◌≡◌, ℕ, ◌+◌, ap, ◌∙◌, List, map, drop, get_or}
+use Rattle.std.proofs.Common.{◌≡◌, ℕ, ◌+◌, ap, ◌∙◌, refl, Ok, List, map, drop, get_or}
 use Rattle.std.proofs.Math.ListN.{get_or-map}
 use Rattle.std.proofs.lemmas.List.{get_or-drop}
 use Rattle.flex_interval.specs.Ends.{Ends}
@@ -8,19 +8,12 @@ use Rattle.member_set.specs.Realisation.{Realisation}
 use Rattle.int_laws.specs.Matrices.{Vector}
 use Rattle.model_types.specs.Lists.{Lists}
 use Rattle.model_types.specs.declared.answers.Bounds.{Bounds}
-use Rattle.model_types.specs.declared.answers.CaseAnswer.{CaseAnswer}
-use Rattle.model_types.specs.declared.answers.CaseAnswer.TheVariants.{Certified, Uncertified}
 use Rattle.certificate.specs.declared.bounds.Enclosure.{Enclosure}
 use Rattle.certificate.specs.Bounds.{EnclosesEquilibrium}
-use Rattle.case_run.specs.Causes.{Plan}
+use Rattle.case_run.specs.Answers.{answer_with}
 use Rattle.structure.specs.Elements.{element_member_count}
-use Rattle.case_run.specs.Certified.{IsCertified, IsCaseAnswer, TellsBounds, bounds_of}
+use Rattle.case_run.specs.Certified.{bounds_of}
 use Rattle.case_run.specs.Equilibria.{AreWithin, OfEquilibria, HoldsAlways, ends_of, ends_at}
-
-pub told_answer : (m : Lists) (case : ℕ) (p : Plan) (e : Enclosure) (a : CaseAnswer) →
-    TellsBounds (element_member_count m) e a → IsCertified m case p e → IsCaseAnswer m case p a
-told_answer m case p e (Certified u loads states) tells bounds = (e, bounds, tells)
-told_answer m case p e (Uncertified cause guess) tells bounds = absurd tells
 
 ends_at-map : (es : List Ends) (k : ℕ) → ends_at (map bounds_of es) k ≡ get_or es k nothing
 ends_at-map es k = ap ends_of (get_or-map bounds_of es k nothing)
@@ -36,8 +29,6 @@ told_within first e u loads r exact u_is loads_are encloses =
       load = λ k inside. rw (loads_are, ends_at-drop first e.force k) (encloses.force (first + k) inside);
     }
 
-pub told_holds : (m : Lists) (case : ℕ) (e : Enclosure) (a : CaseAnswer) →
-    TellsBounds (element_member_count m) e a → OfEquilibria m case (EnclosesEquilibrium e) → HoldsAlways m case a
-told_holds m case e (Certified u loads states) tells encloses = λ b case_loads r exact structure loaded real balance.
-    told_within (element_member_count m) e u loads r exact tells.0 tells.1 (encloses b case_loads r exact structure loaded real balance)
-told_holds m case e (Uncertified cause guess) tells encloses = absurd tells
+pub told_holds : (m : Lists) (case : ℕ) (e : Enclosure) → OfEquilibria m case (EnclosesEquilibrium e) → HoldsAlways m case (answer_with (element_member_count m) (Ok e))
+told_holds m case e encloses = λ b loads r exact structure loaded real balance.
+    told_within (element_member_count m) e _ _ r exact refl refl (encloses b loads r exact structure loaded real balance)

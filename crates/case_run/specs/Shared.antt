@@ -1,12 +1,10 @@
 -- What all cases of a model share.
 use Rattle.std.specs.Prelude.{◌≡◌, IfOk, MatchResult, pos, ◌≤ℤ◌, Ok, Err}
 use Rattle.model_types.specs.Lists.{Lists}
-use Rattle.sym_blocks.specs.Matrix.{Matrix}
 use Rattle.structure.specs.Structure.{IsStructureOf}
 use Rattle.member_set.specs.Members.{AreStiff}
 use Rattle.case_run.specs.declared.shared.Shared.{Shared}
-use Rattle.case_run.specs.Causes.{Plan, resting_laws, IsFactorAt, IsBreakdownCause}
-use Rattle.case_run.specs.Certified.{IsCertifiable}
+use Rattle.case_run.specs.Causes.{Plan, resting_laws}
 use Rattle.assembly.specs.Stiffness.{middle}
 use Rattle.factor_data.specs.Columns.{factor_entry}
 use Rattle.case_run.specs.Answers.{because, factor_at}
@@ -26,9 +24,3 @@ HasUnshifted p s =
     MatchResult s.factor
     (λ f. (f.order ≡ p.order) × (factor_at p (middle s.b) (pos 0) ≡ Ok (factor_entry f)))
     (λ cause. factor_at p (middle s.b) (pos 0) ≡ Err (because cause))
-
--- a margin of the model, and the factor without a shift or why there is none
-pub record IsShared (m : Lists) (p : Plan) (s : Shared) : Type 0 where
-  pub middles : Matrix
-  pub model : IsCertifiable m p s.b middles s.lambda
-  pub unshifted : MatchResult s.factor (IsFactorAt p middles (pos 0)) (IsBreakdownCause p middles (pos 0))

@@ -1,21 +1,11 @@
 -- What the steps of a case hand on.
 use Rattle.std.specs.Prelude.{◌≡◌, ℕ, ◌*◌, ◌^◌, ◌<◌, ◌≤◌, ⊤, List, length, Option, ℤ, pos, ◌-ℤ◌, ◌*ℤ◌, ◌≤ℤ◌, ◌<ℤ◌, unsigned_abs}
-use Rattle.model_types.specs.declared.answers.Cause.{Cause}
 use Rattle.sym_blocks.specs.Matrix.{Matrix, node_count, entry}
 use Rattle.factor_data.specs.Columns.{ColumnLists, factor_entry, HasDiagonal}
 use Rattle.lists.specs.Order.{IsOrder}
 use Rattle.elimination.specs.Elimination.{AreParents}
-use Rattle.int_laws.specs.Matrices.{absolute}
-use Rattle.bound_laws.specs.Definiteness.{SymmetricFractions, IsDefiniteWith}
 use Rattle.member_set.specs.declared.members.Built.{Built}
 use Rattle.member_set.specs.Members.{built_nodes as nodes_of}
-use Rattle.case_run.specs.declared.fault.CaseFault.{CaseFault}
-use Rattle.case_run.specs.declared.fault.CaseFault.TheVariants as faults
-
--- the cause that a fault names is one of these
-abbrev pub Names : (Cause → Type 0) → CaseFault → Type 0
-Names IsCause (faults.Because cause) = IsCause cause
-Names IsCause faults.NoMemory = ⊤
 
 -- a matrix of so many nodes whose entries are below 2^60 in size
 pub record IsFactorable (nodes : ℕ) (m : Matrix) : Type 0 where

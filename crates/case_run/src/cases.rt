@@ -1,12 +1,11 @@
-ghost use Rattle.std.specs.Prelude.{◌≡◌, ◌<◌, ℕ, length, map, drop, replicate, [], IfOk, IfErr, All};
+ghost use Rattle.std.specs.Prelude.{◌≡◌, ◌<◌, ℕ, length, map, drop, replicate, [], IfOk, Ok};
 ghost use Rattle.lists.specs.Listed.{listed};
 ghost use Rattle.lists.specs.Results.{Gives};
 ghost use Rattle.case_run.specs.Answers.{base, enclosure_in, answer_with, answers_of};
 ghost use Rattle.case_run.specs.Faults.{reason_told};
 ghost use Rattle.case_run.specs.Causes.{plan, Plan};
-ghost use Rattle.case_run.specs.Certified.{IsCertified, IsUncertified, IsCaseAnswer, AreCaseAnswers, TellsBounds, bounds_of};
-ghost use Rattle.case_run.specs.Shared.{IsReady, IsShared, HasUnshifted};
-ghost use Rattle.case_run.specs.Steps.{Names};
+ghost use Rattle.case_run.specs.Certified.{bounds_of};
+ghost use Rattle.case_run.specs.Shared.{IsReady, HasUnshifted};
 ghost use Rattle.elimination.specs.Elimination.{AreParents};
 ghost use Rattle.lists.specs.Order.{IsOrder};
 ghost use Rattle.load_vectors.specs.Loads.{HasForcesAlone, case_at};
@@ -39,7 +38,6 @@ pub fn answers(
     requires parents_count { length parents.now ≡ length order.now }
     requires parents_later { AreParents parents.now (length order.now) }
     ensures given { IfOk result (λ answers. answers.items ≡ answers_of m.now (plan order.now parents.now)) }
-    ensures answers { IfOk result (λ answers. AreCaseAnswers m.now (plan order.now parents.now) answers.items) }
     ensures fit { IfOk result (λ answers. AreAnswersOf m.now answers.items) }
 {
     // The laws by which the answers fit the model.
@@ -71,9 +69,8 @@ fn same_answers(alloc: Global, m: &Model, cause: Cause) -> Result<Vec<CaseAnswer
 fn each_answer(alloc: Global, m: &Model, shared: &Shared) -> Result<Vec<CaseAnswer>, AllocError>
     requires forces_alone { (case : ℕ) → case < length m.now.cases → HasForcesAlone (case_at m.now case) }
     requires ready { IsReady m.now shared.now }
-    ensures given { IfOk result (λ answers. (p : Plan) → HasUnshifted p shared.now → answers.items ≡
+    ensures { IfOk result (λ answers. (p : Plan) → HasUnshifted p shared.now → answers.items ≡
         listed (length m.now.cases) (λ case. answer_with (element_member_count m.now) (enclosure_in m.now p case (base shared.now.b shared.now.lambda)))) }
-    ensures answers { IfOk result (λ answers. (p : Plan) → IsShared m.now p shared.now → AreCaseAnswers m.now p answers.items) }
 {
     let cases = m.cases().len();
     let mut answers = Vec::with_capacity(alloc, cases)?;
@@ -93,9 +90,8 @@ fn case_answer(
     requires case_in_range { case.0 < length m.now.cases }
     requires forces_alone { HasForcesAlone (case_at m.now case.0) }
     requires ready { IsReady m.now shared.now }
-    ensures given { IfOk result (λ a. (p : Plan) → HasUnshifted p shared.now →
+    ensures { IfOk result (λ a. (p : Plan) → HasUnshifted p shared.now →
         a ≡ answer_with (element_member_count m.now) (enclosure_in m.now p case.0 (base shared.now.b shared.now.lambda))) }
-    ensures answer { IfOk result (λ a. (p : Plan) → IsShared m.now p shared.now → IsCaseAnswer m.now case.0 p a) }
 {
     match enclosure_of(alloc, m, case, shared) {
         Ok(e) => certified(alloc, &e, element_member_count(m)),
@@ -114,9 +110,7 @@ fn enclosure_of(
     requires case_in_range { case.0 < length m.now.cases }
     requires forces_alone { HasForcesAlone (case_at m.now case.0) }
     requires ready { IsReady m.now shared.now }
-    ensures given { (p : Plan) → HasUnshifted p shared.now → Gives (λ e. e) reason_told (enclosure_in m.now p case.0 (base shared.now.b shared.now.lambda)) result }
-    ensures bounds { IfOk result (λ e. (p : Plan) → IsShared m.now p shared.now → IsCertified m.now case.0 p e) }
-    ensures cause { IfErr result (λ f. (p : Plan) → IsShared m.now p shared.now → Names (IsUncertified m.now case.0 p) f) }
+    ensures { (p : Plan) → HasUnshifted p shared.now → Gives (λ e. e) reason_told (enclosure_in m.now p case.0 (base shared.now.b shared.now.lambda)) result }
 {
     let loads = loads(alloc, m, case)?;
     let factor = match &shared.factor {
@@ -129,7 +123,7 @@ fn enclosure_of(
 
 /// The answer with bounds: of all displacements, and of the forces of the members from `first` on.
 fn certified(alloc: Global, e: &Enclosure, first: usize) -> Result<CaseAnswer, AllocError>
-    ensures { IfOk result (TellsBounds first e.now) }
+    ensures { IfOk result (λ a. a ≡ answer_with first (Ok e.now)) }
 {
     Ok(CaseAnswer::Certified {
         u: Sequence::new(bounds_from(alloc, e.u.as_slice(), 0)?),

@@ -1,11 +1,11 @@
-ghost use Rattle.std.specs.Prelude.{◌≡◌, ◌<◌, ◌≤◌, ℕ, length, IfOk, IfErr, ℤ, pos, ◌≤ℤ◌, ◌^◌};
+ghost use Rattle.std.specs.Prelude.{◌≡◌, ◌<◌, ◌≤◌, ℕ, length, IfOk, ℤ, pos, ◌≤ℤ◌, ◌^◌};
 ghost use Rattle.lists.specs.Results.{Gives};
 ghost use Rattle.sym_blocks.specs.Matrix.{entry};
 ghost use Rattle.case_run.specs.Answers.{margin_at, margin_of};
 ghost use Rattle.case_run.specs.Faults.{reason_told};
 ghost use Rattle.case_run.specs.Causes.{plan};
-ghost use Rattle.case_run.specs.Certified.{shift_of, last_place, ShiftPasses, ShiftFails, IsMargin, HasNoMargin};
-ghost use Rattle.case_run.specs.Steps.{Names, IsFactorable, IsPlan, IsRadiusMatrix};
+ghost use Rattle.case_run.specs.Certified.{shift_of, last_place};
+ghost use Rattle.case_run.specs.Steps.{IsFactorable, IsPlan, IsRadiusMatrix};
 
 use crate::fault::CaseFault;
 use crate::steps::factor_of;
@@ -42,9 +42,7 @@ fn margin_at(
     requires shift_low { pos 0 ≤ℤ shift }
     requires shift_high { shift ≤ℤ pos (2 ^ 44) }
     ensures given { Gives (λ lambda. lambda) reason_told (margin_at (plan order.now parents.now) (entry middles.now) (entry radii.now) shift) result }
-    ensures passes { IfOk result (ShiftPasses (plan order.now parents.now) middles.now radii.now shift) }
     ensures positive { IfOk result (λ lambda. pos 1 ≤ℤ lambda) }
-    ensures fails { IfErr result (Names (ShiftFails (plan order.now parents.now) middles.now radii.now shift)) }
 {
     let factor = factor_of(alloc, middles, order, parents, shift)?;
     let mut space = CheckSpace::new(alloc, &factor)?;
@@ -69,9 +67,7 @@ pub(crate) fn margin_of(
     requires factorable { IsFactorable (length order.now) middles.now }
     requires radii { IsRadiusMatrix (length order.now) radii.now }
     ensures given { Gives (λ lambda. lambda) reason_told (margin_of (plan order.now parents.now) (entry middles.now) (entry radii.now)) result }
-    ensures margin { IfOk result (IsMargin (plan order.now parents.now) middles.now radii.now) }
     ensures positive { IfOk result (λ lambda. pos 1 ≤ℤ lambda) }
-    ensures cause { IfErr result (Names (HasNoMargin (plan order.now parents.now) middles.now radii.now)) }
 {
     for place in 0..LAST_PLACE {
         match margin_at(alloc, middles, radii, order, parents, shift_of(place)) {

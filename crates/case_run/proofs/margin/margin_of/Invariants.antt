@@ -3,12 +3,8 @@ use Rattle.std.specs.Prelude.{IsErr}
 use Rattle.sym_blocks.specs.Matrix.{entry}
 use Rattle.case_run.specs.Answers.{margin_at}
 use Rattle.case_run.specs.Causes.{plan}
-use Rattle.case_run.specs.Certified.{FailBefore, shift_of}
+use Rattle.case_run.specs.Certified.{shift_of}
 use Rattle.case_run.proofs.margin.margin_of.Given as goal
 
 abbrev pub invariant-loop-place : goal.invariant-loop-place
-invariant-loop-place l =
-    record {
-      fail : FailBefore (plan l.order l.parents) l.middles l.radii l.place;
-      none : (i : ℕ) → i < l.place → IsErr (margin_at (plan l.order l.parents) (entry l.middles) (entry l.radii) (shift_of i));
-    }
+invariant-loop-place l = (i : ℕ) → i < l.place → IsErr (margin_at (plan l.order l.parents) (entry l.middles) (entry l.radii) (shift_of i))

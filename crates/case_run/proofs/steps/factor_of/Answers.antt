@@ -1,6 +1,5 @@
 use Rattle.std.proofs.Common.{to_z-of_z, ap}
 use Rattle.std.proofs.lemmas.Result.{err_from_is_err_and}
-use Rattle.case_run.proofs.Faults.{names_breakdown}
 use Rattle.lists.specs.Results.{named}
 use Rattle.sym_blocks.specs.Matrix.{entry}
 use Rattle.case_run.specs.Answers.{breakdown_reason}
@@ -8,11 +7,6 @@ use Rattle.case_run.specs.Causes.{plan}
 use Rattle.case_run.proofs.Chained.{tells_breakdown}
 use Rattle.case_run.proofs.GivenFactor.{entries_given}
 use Rattle.case_run.proofs.steps.factor_of.Goals as goal
-
-pub returns-in_err-factor-clause-cause : goal.returns-in_err-factor-clause-cause
-returns-in_err-factor-clause-cause c =
-    let p = err_from_is_err_and c.from_residual.result c.from_residual.ensures.1 in
-    rw (p.1, p.2) (names_breakdown _ _ _ _ (rw (to_z-of_z c.ranges.shift) at c.in_err-factor.ensures.factor))
 
 pub returns-in_err-factor-clause-given : goal.returns-in_err-factor-clause-given
 returns-in_err-factor-clause-given c =

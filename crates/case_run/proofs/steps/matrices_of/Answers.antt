@@ -1,5 +1,4 @@
 use Rattle.std.proofs.lemmas.Result.{err_from_is_err_and}
-use Rattle.case_run.proofs.Faults.{names_matrix}
 use Rattle.case_run.proofs.Matrices.{middles_small, radii_below, radii_not_negative}
 use Rattle.std.proofs.Common.{ap}
 use Rattle.lists.specs.Results.{named}
@@ -7,11 +6,6 @@ use Rattle.case_run.specs.Answers.{matrix_reason}
 use Rattle.case_run.proofs.Chained.{tells_matrix}
 use Rattle.case_run.proofs.GivenStructure.{matrices_given}
 use Rattle.case_run.proofs.steps.matrices_of.Goals as goal
-
-pub returns-in_err-middles-clause-cause : goal.returns-in_err-middles-clause-cause
-returns-in_err-middles-clause-cause c =
-    let p = err_from_is_err_and c.from_residual.result c.from_residual.ensures.1 in
-    rw (p.1, p.2) (names_matrix _ _ c.in_err-middles.ensures.fault)
 
 pub returns-clause-factorable : goal.returns-clause-factorable
 returns-clause-factorable c =
