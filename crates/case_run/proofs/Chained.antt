@@ -1,6 +1,6 @@
 -- What the steps of an analysis give, put together to the answers as a function of the model.
 use Rattle.std.specs.Prelude.{is_err, IsErr, IfOk, IfSome, MatchResult, replicate}
-use Rattle.std.proofs.Common.{◌≡◌, ℕ, zero, suc, ◌+◌, ◌*◌, ◌<◌, ◌≤◌, inl, inr, refl, sym, ◌∙◌, ap, ap₂, subst, arith, Bool, Option, Some, None, Result, Ok, Err, List, [], ◌∷◌, ◌++◌, length, map, drop, get_or, ℤ, pos}
+use Rattle.std.proofs.Common.{◌≡◌, ℕ, zero, suc, ◌+◌, ◌<◌, ◌≤◌, inl, inr, refl, sym, ◌∙◌, ap, subst, arith, Option, Some, None, Result, Ok, Err, List, [], ◌∷◌, ◌++◌, length, ℤ, pos}
 use Rattle.std.proofs.lemmas.Bool.{cases_lt}
 use Rattle.std.proofs.lemmas.List.{length-replicate, get_or-replicate}
 use Rattle.std.proofs.lemmas.List.FromFn.{map-range_with_len_more}
@@ -10,11 +10,9 @@ use Rattle.int_laws.specs.Matrices.{Entries}
 use Rattle.lists.specs.Listed.{listed}
 use Rattle.lists.specs.Results.{and_then, named, unless, or_else, first_value}
 use Rattle.member_set.specs.declared.members.Built.{Built}
-use Rattle.member_set.specs.Members.{System, system, row_count}
+use Rattle.member_set.specs.Members.{System, system}
 use Rattle.model_types.specs.Lists.{Lists}
-use Rattle.model_types.specs.declared.answers.Bounds.{Bounds}
 use Rattle.model_types.specs.declared.answers.Cause.{Cause}
-use Rattle.model_types.specs.declared.answers.CaseAnswer.{CaseAnswer}
 use Rattle.model_types.specs.declared.answers.CaseAnswer.TheVariants.{Uncertified}
 use Rattle.model_types.specs.declared.ids.ElementId.{ElementId}
 use Rattle.structure.specs.Structure.{model_members, structure_of}

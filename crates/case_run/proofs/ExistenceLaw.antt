@@ -1,5 +1,5 @@
 -- Why a case has a realisation: each interval of the structure and of the loads holds a number.
-use Rattle.std.proofs.Common.{◌≡◌, ℕ, ◌*◌, ◌<◌, ap, ◌∙◌, sym, subst, arith, List, length, ◌≤ℤ◌}
+use Rattle.std.proofs.Common.{sym, subst, arith, length, ◌≤ℤ◌}
 use Rattle.std.proofs.lemmas.List.{get_or-replicate}
 use Rattle.std.proofs.lemmas.Int.{ints}
 use Rattle.int_laws.proofs.Sums.{int_sums}

@@ -1,11 +1,11 @@
 -- The answers of the cases of a model fit it: as many bounds as there are displacements and loads of restraints, none of
 -- them large, or a cause that names the model's own records, with nothing beside it.
-use Rattle.std.proofs.Common.{◌≡◌, ℕ, Bool, true, false, zero, suc, ◌+◌, ◌*◌, ◌/◌, ◌%◌, ◌^◌, ◌<◌, ◌≤◌, List, [], ◌++◌, length, get_or, map, drop, All, refl, sym, ap, ◌∙◌, subst, arith, Option, Some, None, Result, Ok, Err, ℤ, pos, ◌≤ℤ◌, unsigned_abs, length-drop, inl, inr}
+use Rattle.std.proofs.Common.{◌≡◌, ℕ, Bool, true, false, zero, suc, ◌+◌, ◌*◌, ◌/◌, ◌%◌, ◌^◌, ◌<◌, ◌≤◌, List, [], ◌++◌, length, map, drop, All, refl, sym, ap, ◌∙◌, subst, arith, Option, Some, None, Result, Ok, Err, ℤ, pos, unsigned_abs, length-drop, inl, inr}
 use Rattle.std.proofs.lemmas.Bool.{false≢true, cases_lt}
 use Rattle.std.proofs.lemmas.List.{length-map}
 use Rattle.std.proofs.lemmas.List.Elements.{All-drop, All-map, All-from_get_or}
 use Rattle.std.proofs.lemmas.List.FromFn.{length-map-range_with_len, get_or-map-range_with_len}
-use Rattle.std.specs.Prelude.{slice_index, if◌then◌else◌, option_map, nat_lt, int_lt}
+use Rattle.std.specs.Prelude.{slice_index, option_map, nat_lt, int_lt}
 use Rattle.std.specs.Option.{option_map_or}
 use Rattle.std.specs.List.{flat_map}
 use Rattle.int_laws.specs.Matrices.{Entries}
@@ -22,8 +22,7 @@ use Rattle.member_set.specs.Members.{IsModerate, built_nodes, row_count, system}
 use Rattle.model_types.specs.Fits.{AreAnswersOf, AreModest, FitsModel, IsModest}
 use Rattle.model_types.specs.Lists.{Lists}
 use Rattle.model_types.specs.declared.answers.Bounds.{Bounds}
-use Rattle.model_types.specs.declared.answers.CaseAnswer.{CaseAnswer}
-use Rattle.model_types.specs.declared.answers.CaseAnswer.TheVariants.{Certified, Uncertified}
+use Rattle.model_types.specs.declared.answers.CaseAnswer.TheVariants.{Uncertified}
 use Rattle.cholesky_laws.specs.Recurrence.{scaled_stiffness, pivot}
 use Rattle.cholesky_laws.specs.Factor.{factor_of, node_fails, low_pivot, Breakdown, low, too_wide, breakdown_at}
 use Rattle.assembly.specs.Stiffness.{matrices_of, middle, wide_row}
@@ -37,11 +36,11 @@ use Rattle.bound_laws.specs.Definiteness.{PassedTestIsProof}
 use Rattle.structure.specs.Anchors.{HasAnchorsAlone, restraint_members}
 use Rattle.structure.specs.Elements.{element_at, members_of_element, element_member_count}
 use Rattle.structure.specs.Structure.{Members, ModelsHaveTheirMembers, element_members, model_members, with_element, then_members, linear_structure, structure_of}
-use Rattle.case_run.specs.Answers.{Reason, because, element_reason, matrix_reason, breakdown_reason, margin_reason, load_reason, turns_reason, bounds_reason, factor_at, margin_at, margin_of, Base, base_of, enclosure_in, answer_with, answer_of, answers_of}
+use Rattle.case_run.specs.Answers.{Reason, element_reason, matrix_reason, breakdown_reason, margin_reason, load_reason, turns_reason, bounds_reason, factor_at, margin_at, margin_of, Base, base_of, enclosure_in, answer_with, answer_of, answers_of}
 use Rattle.case_run.specs.Causes.{Plan, resting_laws}
 use Rattle.case_run.specs.Certified.{bounds_of, last_place, shift_of}
 use Rattle.case_run.proofs.Searching.{nat_lt-yes, any_at}
-use Rattle.case_run.proofs.SoundnessLaw.{value_before, value_named, nothing_found, margin_definite, IsBase, is_base, AreAround, are_around}
+use Rattle.case_run.proofs.SoundnessLaw.{value_before, value_named, margin_definite, is_base, are_around}
 
 -- ---- errors in a chain
 

@@ -1,6 +1,6 @@
 -- What the relations of the bounds say of them as a function of the system.
-use Rattle.std.specs.Prelude.{int_le, ◌||◌, is_err, IsErr, IsOk}
-use Rattle.std.proofs.Common.{◌≡◌, ℕ, ◌^◌, ◌<◌, refl, sym, ◌∙◌, ap, ap₂, arith, Bool, true, false, cond, Result, Ok, Err, List, [], length, ℤ, pos, ◌≤ℤ◌, ◌<ℤ◌}
+use Rattle.std.specs.Prelude.{int_le, ◌||◌, is_err, IsOk}
+use Rattle.std.proofs.Common.{◌≡◌, ◌^◌, refl, sym, ◌∙◌, ap, Bool, true, false, cond, Result, Ok, Err, List, length, ℤ, pos}
 use Rattle.std.proofs.lemmas.Bool.{or_from, or_left, or_right}
 use Rattle.flex_interval.specs.Ends.{Ends}
 use Rattle.flex_interval.specs.declared.fault.Wide.{Wide}

@@ -1,19 +1,16 @@
 -- What the first breakdown says of the factor as a function of the matrix.
-use Rattle.std.specs.Prelude.{int_lt, int_le, nat_eq, nat_lt, nat_le, ◌||◌, ◌&&◌, is_some, if◌then◌else◌, option_map}
-use Rattle.std.proofs.Common.{◌≡◌, ℕ, ◌+◌, ◌-◌, ◌*◌, ◌/◌, ◌^◌, ◌<◌, ◌≤◌, ◌⊎◌, inl, inr, refl, sym, ◌∙◌, ap, subst, arith, Bool, true, false, Option, Some, None, Result, Ok, Err, List, [], length, get_or, slice_index, Contains, unsigned_abs, ℤ, pos, ◌≤ℤ◌, ◌<ℤ◌}
+use Rattle.std.specs.Prelude.{int_le, nat_lt, nat_le, ◌||◌, ◌&&◌, is_some, if◌then◌else◌, option_map}
+use Rattle.std.proofs.Common.{◌≡◌, ℕ, ◌+◌, ◌-◌, ◌*◌, ◌/◌, ◌^◌, ◌<◌, ◌≤◌, ◌⊎◌, inl, inr, sym, ◌∙◌, ap, arith, Bool, true, false, Option, Some, None, Ok, Err, List, [], length, get_or, slice_index, unsigned_abs, pos, ◌≤ℤ◌, ◌<ℤ◌}
 use mathlib.Core.Path.{fun_ext}
 use Rattle.std.specs.Option.{option_map_or}
 use Rattle.std.proofs.lemmas.Bool.{cases_lt, or_from, or_left, or_right, and_from, and_left, and_right, ne_eqb}
-use Rattle.std.proofs.lemmas.Int.{ints}
 use Rattle.std.proofs.lemmas.List.{get_or_past}
 use Rattle.std.proofs.lemmas.List.Elements.{Contains-get_or}
-use Rattle.int_laws.specs.Sums.{sum_below}
 use Rattle.int_laws.proofs.SumLaws.{sum_below-zero}
 use Rattle.int_laws.specs.Matrices.{Entries}
-use Rattle.lists.specs.Search.{any_below, first_below}
 use Rattle.lists.specs.Results.{unless}
 use Rattle.cholesky_laws.specs.Recurrence.{cholesky, pivot}
-use Rattle.cholesky_laws.specs.Breakdown.{squares, Passes, PassesWhole, BreaksAtPivot, BreaksWide, HasLargeEntry, HasWideRow}
+use Rattle.cholesky_laws.specs.Breakdown.{squares, Passes, PassesWhole, HasLargeEntry, HasWideRow}
 use Rattle.cholesky_laws.specs.Factor.{low_pivot, has_large_entry, has_wide_row, node_fails, Breakdown, low, too_wide, breakdown_at, cut_to, factor_of}
 use Rattle.factor.specs.Scalar.{IsFactorOf, IsBreakdown}
 use Rattle.factor.specs.declared.fault.ScalarFault.TheVariants as faults

@@ -1,16 +1,15 @@
 -- What a verdict says of the margin as a function of the test.
 use Rattle.std.specs.Int.{int_div_euclid}
-use Rattle.std.specs.Prelude.{int_lt, int_le, ◌||◌}
-use Rattle.std.proofs.Common.{◌≡◌, ℕ, ◌*◌, ◌^◌, ◌<◌, ◌⊎◌, inl, inr, refl, sym, ◌∙◌, ap, arith, Bool, true, false, Option, Result, Ok, Err, List, length, ℤ, pos, ◌≤ℤ◌, ◌<ℤ◌}
+use Rattle.std.specs.Prelude.{int_lt, int_le}
+use Rattle.std.proofs.Common.{◌≡◌, ℕ, inl, inr, refl, ◌∙◌, ap, arith, true, false, Option, Ok, Err, List, length, ℤ, ◌≤ℤ◌, ◌<ℤ◌}
 use Rattle.std.proofs.lemmas.Bool.{or_from, or_left, or_right}
 use Rattle.std.proofs.lemmas.Int.{ints}
-use Rattle.lists.specs.Search.{any_below, first_below, least_below}
+use Rattle.lists.specs.Search.{least_below}
 use Rattle.lists.specs.Results.{unless}
 use Rattle.sym_blocks.specs.Matrix.{Matrix, node_count, entry as block_entry}
 use Rattle.factor_data.specs.Columns.{ColumnLists, factor_entry}
 use Rattle.bound_laws.specs.Definiteness.{CholeskyTest, row_margin}
-use Rattle.certificate.specs.Checker.{test_of, test_by, product_sizes, RowIsRefused, row_refused, margin_by, IsVerdict}
-use Rattle.certificate.specs.declared.check.Verdict.{Verdict}
+use Rattle.certificate.specs.Checker.{test_of, test_by, RowIsRefused, row_refused, margin_by, IsVerdict}
 use Rattle.certificate.specs.declared.check.Verdict.TheVariants.{Yes, No}
 use Rattle.case_run.proofs.Searching.{int_lt-yes, int_le-yes, any_none, any_at, first_none, first_at, least-is}
 

@@ -1,9 +1,9 @@
 -- What the relations of a structure, of its matrices and of the loads say of them as functions of the model.
-use Rattle.std.specs.Prelude.{◌==◌, ◌||◌, is_err, IsErr, IsOk, filter, nat_lt, nat_eq, if◌then◌else◌}
+use Rattle.std.specs.Prelude.{◌==◌, is_err, IsOk, filter, if◌then◌else◌}
 use Rattle.std.specs.List.{range_with_len}
 use mathlib.Core.Path.{fun_ext}
-use Rattle.std.proofs.Common.{◌≡◌, ℕ, zero, suc, ◌+◌, ◌*◌, ◌/◌, ◌<◌, ◌≤◌, ◌≢◌, ◌⊎◌, inl, inr, refl, sym, ◌∙◌, ap, ap₂, subst, arith, Bool, true, false, Option, Some, None, Result, Ok, Err, List, [], ◌∷◌, ◌++◌, length, get_or, ext_get_or, map, Contains, cond, append-nil, map-id, add-one, ℤ, pos}
-use Rattle.std.proofs.lemmas.Bool.{cases_lt, cases_eq, cases_Bool, false≢true, or_from, or_left, or_right, ne_eqb, eq-eqb, eqb-true}
+use Rattle.std.proofs.Common.{◌≡◌, ℕ, zero, suc, ◌+◌, ◌*◌, ◌/◌, ◌<◌, ◌≤◌, ◌⊎◌, inl, inr, refl, sym, ◌∙◌, ap, ap₂, subst, arith, Bool, true, false, Option, None, Ok, Err, List, [], ◌∷◌, ◌++◌, length, get_or, Contains, cond, append-nil, map-id, add-one, ℤ, pos}
+use Rattle.std.proofs.lemmas.Bool.{cases_lt, cases_eq, false≢true, or_from, or_left, or_right, ne_eqb, eq-eqb}
 use Rattle.std.proofs.lemmas.List.{get_or_past}
 use Rattle.std.proofs.lemmas.List.Elements.{Contains-push, Contains-push_cases, Contains-append_left, Contains-get_or}
 use Rattle.std.proofs.lemmas.List.FromFn.{filter_of_map_range_with_len_more}
@@ -13,13 +13,12 @@ use Rattle.flex_interval.specs.Operations.{middle_of, radius_of, add_of, mul_of}
 use Rattle.lists.specs.Listed.{listed}
 use Rattle.lists.specs.Results.{and_then, unless}
 use Rattle.lists.specs.Rising.{IsRising}
-use Rattle.lists.specs.Search.{any_below, first_below}
 use Rattle.lists.proofs.UniqueLemmas.{rising_unique}
 use Rattle.member_set.specs.declared.members.Member.{Member}
 use Rattle.member_set.specs.declared.members.Station.{Station}
 use Rattle.member_set.specs.declared.members.Built.{Built}
 use Rattle.member_set.specs.Interval.{Outcome, found, in_turn}
-use Rattle.member_set.specs.Members.{nothing, shape_at, no_member, member_of, members_at, load_of, Touches, touches, built_nodes, row_count, IsBuilt}
+use Rattle.member_set.specs.Members.{nothing, shape_at, no_member, member_of, members_at, Touches, touches, built_nodes, row_count, IsBuilt}
 use Rattle.model_types.specs.Lists.{Lists}
 use Rattle.structure.specs.Structure.{IsStructureOf, Members, model_members, touching_numbers, linear_structure, structure_of}
 use Rattle.load_vectors.specs.Loads.{AreLoads, IsFirstWideLoad, row_load, loads_of}

@@ -1,6 +1,6 @@
 -- What the relations of the refinement say of its turns as a function of the system.
-use Rattle.std.specs.Prelude.{int_le, nat_lt, nat_le, not, ◌||◌, is_err, IsErr, set}
-use Rattle.std.proofs.Common.{◌≡◌, ℕ, zero, suc, ◌+◌, ◌-◌, ◌*◌, ◌^◌, ◌<◌, ◌≤◌, inl, inr, refl, sym, ◌∙◌, ap, ap₂, subst, arith, Bool, true, false, Result, Ok, Err, All, List, length, replicate, ext_get_or, pow_pos, unsigned_abs, ℤ, pos, ◌+ℤ◌, ◌-ℤ◌, ◌*ℤ◌, ◌≤ℤ◌, ◌<ℤ◌}
+use Rattle.std.specs.Prelude.{nat_lt, not, is_err}
+use Rattle.std.proofs.Common.{◌≡◌, ℕ, zero, suc, ◌+◌, ◌-◌, ◌*◌, ◌^◌, ◌<◌, ◌≤◌, inl, inr, refl, sym, ◌∙◌, ap, ap₂, subst, arith, Bool, true, false, Result, Ok, Err, All, List, length, ext_get_or, pow_pos, unsigned_abs, ℤ, pos, ◌+ℤ◌, ◌-ℤ◌, ◌*ℤ◌, ◌≤ℤ◌}
 use Rattle.std.proofs.Math.Nat.{mul-le-mul_left}
 use Rattle.std.proofs.Math.ListN.{length-replicate}
 use Rattle.std.proofs.lemmas.Bool.{cases_lt, false≢true}
@@ -22,7 +22,7 @@ use Rattle.lists.specs.Rows.{freedom_at, position_of}
 use Rattle.lists.specs.Search.{any_below, greatest_to}
 use Rattle.lists.proofs.RowLemmas.{position-below, row-of_position, row-below, position-of_row}
 use Rattle.solve.specs.Numerators.{past}
-use Rattle.solve.specs.Substitution.{at, Numerator, forward_numerator, backward_numerator, IsForwardBelow, IsForward, ForwardBreaks, forward_size, IsBackwardFrom, IsBackward, BackwardBreaks}
+use Rattle.solve.specs.Substitution.{at, forward_numerator, backward_numerator, IsForwardBelow, IsForward, ForwardBreaks, forward_size, IsBackwardFrom, IsBackward, BackwardBreaks}
 use Rattle.solve.specs.Refinement.{Problem, size_of, problem_residual, AreMiddles, HasNoResidual, HasDigits, IsScaling, HasNoRoom, forward_side, backward_side, IsMoved, MovesTooFar, IsTurn, TurnBreaks, no_residual, no_room, forward_broad, backward_broad, too_far, LeadTo, IsTooWide}
 use Rattle.solve.specs.Turns.{unless_wide, is_broad, forward_unknowns, forward_of, backward_unknowns, backward_of, middles_of, has_room, scale_of, moved_at, moved_by, turn_of, turns_of}
 use Rattle.case_run.proofs.Searching.{int_le-yes, int_le-no, nat_le-yes, nat_le-no, nat_lt-yes, nat_lt-no, any_none, any_at, greatest-is, listed-is}

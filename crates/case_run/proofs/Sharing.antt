@@ -1,13 +1,11 @@
 -- What all cases share: the factor's shape, and that the structure with its laws and loads is a system.
-use Rattle.std.proofs.Common.{◌≡◌, ℕ, ◌*◌, ◌<◌, ap, ◌∙◌, sym, subst, arith, List, Result, Ok, Err, length}
+use Rattle.std.proofs.Common.{◌≡◌, ℕ, ◌*◌, ap, ◌∙◌, sym, subst, List, Result, Ok, Err, length}
 use Rattle.std.proofs.Math.ListN.{length-replicate}
 use Rattle.std.specs.Prelude.{IfOk}
 use Rattle.flex_interval.specs.Ends.{Ends}
 use Rattle.member_set.specs.declared.members.Built.{Built}
 use Rattle.member_set.specs.declared.members.Law.{Law}
-use Rattle.member_set.specs.declared.members.Member.{Member}
-use Rattle.member_set.specs.Members.{IsSystem, built_nodes as nodes_of, load_of, system}
-use Rattle.member_set.specs.Realisation.{Realisation, IsRealisation}
+use Rattle.member_set.specs.Members.{IsSystem, built_nodes as nodes_of, system}
 use Rattle.model_types.specs.Lists.{Lists}
 use Rattle.model_types.specs.declared.answers.Cause.{Cause}
 use Rattle.lists.specs.Order.{IsOrder}

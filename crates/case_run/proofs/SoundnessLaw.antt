@@ -1,21 +1,20 @@
 -- Why the answers hold: by the laws of the definitions that a certified answer is composed of.
-use Rattle.std.specs.Prelude.{◌||◌, int_le, int_lt}
 use Rattle.std.specs.Int.{int_div_euclid}
-use Rattle.std.proofs.Common.{◌≡◌, ◌⊎◌, ℕ, zero, suc, ◌*◌, ◌^◌, ◌<◌, ◌≤◌, refl, sym, ◌∙◌, ap, subst, arith, inl, inr, true, Option, Some, None, Result, Ok, Err, List, length, get_or, drop, map, ℤ, pos, ◌≤ℤ◌, ◌<ℤ◌}
-use Rattle.std.specs.List.{slice_get, range_with_len}
+use Rattle.std.proofs.Common.{◌≡◌, ◌⊎◌, ℕ, zero, suc, ◌*◌, ◌<◌, refl, sym, ◌∙◌, ap, subst, arith, inl, inr, Option, Some, None, Result, Ok, Err, List, length, ℤ, pos, ◌≤ℤ◌, ◌<ℤ◌}
+use Rattle.std.specs.List.{slice_get}
 use Rattle.std.proofs.lemmas.Bool.{or_right}
 use Rattle.std.proofs.lemmas.Int.{ints}
 use Rattle.std.proofs.lemmas.List.FromFn.{length-map-range_with_len, get_or-map-range_with_len}
 use Rattle.std.proofs.lemmas.Option.{get_or_from_slice_get, slice_get_within}
 use Rattle.flex_interval.specs.Ends.{Ends}
-use Rattle.int_laws.specs.Matrices.{Vector, Entries}
+use Rattle.int_laws.specs.Matrices.{Entries}
 use Rattle.lists.specs.Listed.{listed}
 use Rattle.lists.specs.Results.{and_then, named, unless, or_else, first_value}
 use Rattle.lists.specs.Search.{first_below, least_below}
 use Rattle.lists.proofs.SearchLemmas.{Finds, first_below-finds, least_below-le, least_below-one}
 use Rattle.member_set.specs.declared.members.Built.{Built}
-use Rattle.member_set.specs.Members.{system, row_count}
-use Rattle.member_set.specs.Realisation.{Realisation, IsRealisation, Stiffness, IsStiffnessOf, LinearIsEveryMember}
+use Rattle.member_set.specs.Members.{system}
+use Rattle.member_set.specs.Realisation.{IsRealisation, Stiffness, IsStiffnessOf, LinearIsEveryMember}
 use Rattle.model_types.specs.Lists.{Lists}
 use Rattle.model_types.specs.Rules.{IsModel}
 use Rattle.bound_laws.specs.Definiteness.{CholeskyTest, row_margin, NoRowFails, IsDefinitenessMargin, EachIsDefiniteWith, PassedTestIsProof}
@@ -28,11 +27,11 @@ use Rattle.certificate.specs.Bounds.{IsDefiniteStiffness, EnclosesEquilibrium, B
 use Rattle.certificate.specs.declared.bounds.Enclosure.{Enclosure}
 use Rattle.structure.specs.Elements.{element_member_count}
 use Rattle.structure.specs.Structure.{structure_of, StructuresAreStiff, IsStructureOf}
-use Rattle.load_vectors.specs.Loads.{loads_of, AreLoads}
+use Rattle.load_vectors.specs.Loads.{loads_of}
 use Rattle.case_run.specs.Causes.{Plan, resting_laws}
-use Rattle.case_run.specs.Certified.{shift_of, last_place, bounds_of}
-use Rattle.case_run.specs.Answers.{Reason, element_reason, matrix_reason, margin_reason, load_reason, turns_reason, bounds_reason, factor_at, margin_at, margin_of, Base, base, base_of, enclosure_in, answer_with, answer_of, answers_of}
-use Rattle.case_run.specs.Equilibria.{OfEquilibria, HoldsAlways, HoldAlways}
+use Rattle.case_run.specs.Certified.{shift_of, last_place}
+use Rattle.case_run.specs.Answers.{Reason, element_reason, matrix_reason, margin_reason, load_reason, turns_reason, bounds_reason, factor_at, margin_at, margin_of, Base, base, base_of, enclosure_in, answer_with, answer_of}
+use Rattle.case_run.specs.Equilibria.{OfEquilibria, HoldsAlways}
 use Rattle.case_run.specs.Soundness.{AnswerHolds, AnswersHold}
 use Rattle.case_run.proofs.Definite.{definite_stiffness}
 use Rattle.case_run.proofs.GivenStructure.{structure_given, loads_given}

@@ -1,6 +1,6 @@
 -- The answers of the cases of a model as a function of the model and the order of its nodes: certified bounds, or the first
 -- reason, in order, why a case has none. No list of columns, kept factor or order of work stands in it.
-use Rattle.std.specs.Prelude.{ℕ, ◌+◌, ◌-◌, ◌*◌, ◌^◌, List, [], length, map, drop, Result, Ok, Err, ℤ, pos}
+use Rattle.std.specs.Prelude.{ℕ, List, [], length, map, drop, Result, Ok, Err, ℤ, pos}
 use Rattle.int_laws.specs.Matrices.{Entries}
 use Rattle.lists.specs.Listed.{listed}
 use Rattle.lists.specs.Results.{and_then, named, first_value}
@@ -21,7 +21,7 @@ use Rattle.solve.specs.Turns.{turns_of}
 use Rattle.certificate.specs.declared.bounds.Enclosure.{Enclosure}
 use Rattle.certificate.specs.Checker.{test_by, margin_by}
 use Rattle.certificate.specs.Bounds.{bounds_around}
-use Rattle.case_run.specs.Causes.{Plan, at_row, resting_laws, width_matrix, width_load}
+use Rattle.case_run.specs.Causes.{Plan, resting_laws, width_matrix, width_load}
 use Rattle.case_run.specs.Certified.{shift_of, last_place, margin_cause, bounds_of}
 use Rattle.structure.specs.Elements.{element_member_count}
 

@@ -1,7 +1,7 @@
 -- What the steps of a case hand on.
-use Rattle.std.specs.Prelude.{◌≡◌, ℕ, ◌*◌, ◌^◌, ◌<◌, ◌≤◌, ⊤, List, length, Option, ℤ, pos, ◌-ℤ◌, ◌*ℤ◌, ◌≤ℤ◌, ◌<ℤ◌, unsigned_abs}
+use Rattle.std.specs.Prelude.{◌≡◌, ℕ, ◌^◌, ◌<◌, ◌≤◌, List, length, Option, pos, ◌≤ℤ◌, ◌<ℤ◌, unsigned_abs}
 use Rattle.sym_blocks.specs.Matrix.{Matrix, node_count, entry}
-use Rattle.factor_data.specs.Columns.{ColumnLists, factor_entry, HasDiagonal}
+use Rattle.factor_data.specs.Columns.{ColumnLists, HasDiagonal}
 use Rattle.lists.specs.Order.{IsOrder}
 use Rattle.elimination.specs.Elimination.{AreParents}
 use Rattle.member_set.specs.declared.members.Built.{Built}

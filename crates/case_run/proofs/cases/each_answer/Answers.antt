@@ -1,4 +1,4 @@
-use Rattle.std.proofs.Common.{ℕ, arith, ◌≡◌, length, ap, sym}
+use Rattle.std.proofs.Common.{arith, ◌≡◌, length, ap, sym}
 use Rattle.case_run.proofs.Chained.{listed_more}
 use Rattle.case_run.proofs.cases.each_answer.Goals as goal
 

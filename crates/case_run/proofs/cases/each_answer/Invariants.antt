@@ -1,4 +1,4 @@
-use Rattle.std.proofs.Common.{◌≡◌, ℕ}
+use Rattle.std.proofs.Common.{◌≡◌}
 use Rattle.case_run.specs.Causes.{Plan}
 use Rattle.structure.specs.Elements.{element_member_count}
 use Rattle.lists.specs.Listed.{listed}

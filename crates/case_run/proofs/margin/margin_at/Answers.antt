@@ -1,6 +1,5 @@
 use Rattle.std.proofs.Common.{rules, to_z-of_z, FitsSigned}
 use Rattle.std.specs.Int.{w128}
-use Rattle.std.proofs.lemmas.Result.{err_from_is_err_and}
 use Rattle.case_run.specs.Causes.{plan}
 use Rattle.case_run.proofs.Chained.{margin_yes, margin_no}
 use Rattle.case_run.proofs.margin.margin_at.Goals as goal

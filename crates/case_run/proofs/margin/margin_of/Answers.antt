@@ -1,13 +1,10 @@
-use Rattle.std.proofs.Common.{◌≡◌, below_more, subst, to_z-of_z, arith, rules, FitsSigned, ap, sym, ℕ, ◌<◌}
+use Rattle.std.proofs.Common.{◌≡◌, below_more, subst, to_z-of_z, arith, rules, FitsSigned, ap, ℕ, ◌<◌}
 use Rattle.std.specs.Int.{w128}
-use Rattle.std.proofs.lemmas.Result.{IfOk-weaker, IfErr-weaker}
 use Rattle.case_run.specs.Causes.{plan}
 use Rattle.case_run.specs.Certified.{last_place, shift_of}
 use Rattle.std.specs.Prelude.{is_err, IsErr}
-use Rattle.lists.specs.Results.{Gives}
 use Rattle.sym_blocks.specs.Matrix.{entry}
 use Rattle.case_run.specs.Answers.{margin_at}
-use Rattle.case_run.specs.Faults.{reason_told}
 use Rattle.case_run.proofs.Chained.{last_value, value_at}
 use Rattle.case_run.proofs.margin.margin_of.Goals as goal
 

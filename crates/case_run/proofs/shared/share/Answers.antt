@@ -1,7 +1,7 @@
-use Rattle.std.proofs.Common.{◌∙◌, Err, ap, sym, to_z-of_z, rules, FitsSigned}
+use Rattle.std.proofs.Common.{◌∙◌, sym, to_z-of_z, rules, FitsSigned}
 use Rattle.std.specs.Int.{w128}
 use Rattle.std.proofs.lemmas.Result.{err_from_is_err_and}
-use Rattle.case_run.specs.Causes.{plan, resting_laws}
+use Rattle.case_run.specs.Causes.{plan}
 use Rattle.case_run.proofs.Sharing.{factor_for}
 use Rattle.sym_blocks.specs.Matrix.{entry}
 use Rattle.case_run.proofs.Chained.{tells_also, base_no_structure, base_no_matrices, base_no_margin, base_is, unshifted_there}
