@@ -229,13 +229,13 @@ moderate p u z v is =
     subst (λ (w : List ℤ). (length w ≡ size_of p) × IsModerate w) made.1 (
       length-map-range_with_len _ 0 (size_of p),
       All-from_get_or (λ (x : ℤ). unsigned_abs x ≤ 2 ^ 60) (listed (size_of p) (moved_at p u z)) (pos 0)
-      (λ row inside.
-      let below : row < size_of p = omega (arith, inside, length-map-range_with_len (moved_at p u z) 0 (size_of p)) in
-      subst (λ (x : ℤ). unsigned_abs x ≤ 2 ^ 60) (sym (get_or-map-range_with_len (moved_at p u z) 0 (size_of p) row row (pos 0) below (omega arith)))
-      (elim (cases_lt (2 ^ 60) (unsigned_abs (moved_at p u z row))) [
-        | inl far ↦ absurd (any_there (size_of p) (λ i. nat_lt (2 ^ 60) (unsigned_abs (moved_at p u z i))) row below (nat_lt-yes _ _ far) made.0)
-        | inr near ↦ near
-      ])),
+          (λ row inside.
+          let below : row < size_of p = omega (arith, inside, length-map-range_with_len (moved_at p u z) 0 (size_of p)) in
+          subst (λ (x : ℤ). unsigned_abs x ≤ 2 ^ 60) (sym (get_or-map-range_with_len (moved_at p u z) 0 (size_of p) row row (pos 0) below (omega arith)))
+          (elim (cases_lt (2 ^ 60) (unsigned_abs (moved_at p u z row))) [
+            | inl far ↦ absurd (any_there (size_of p) (λ i. nat_lt (2 ^ 60) (unsigned_abs (moved_at p u z i))) row below (nat_lt-yes _ _ far) made.0)
+            | inr near ↦ near
+          ])),
     )
 
 -- a turn makes a number for each row, none of them past 2^60

@@ -9,4 +9,4 @@ use Rattle.case_run.proofs.cases.each_answer.Given as goal
 abbrev pub invariant-loop-case : goal.invariant-loop-case
 invariant-loop-case l =
     (p : Plan) → HasUnshifted p l.shared → l.answers.items ≡
-        listed l.case (λ case. answer_with (element_member_count l.m) (enclosure_in l.m p case (base l.shared.b l.shared.lambda)))
+    listed l.case (λ case. answer_with (element_member_count l.m) (enclosure_in l.m p case (base l.shared.b l.shared.lambda)))
