@@ -20,8 +20,6 @@ mod records;
 #[cfg(test)]
 mod reports;
 #[cfg(test)]
-mod restraints;
-#[cfg(test)]
 mod structures;
 #[cfg(test)]
 mod texts;
