@@ -1,0 +1,188 @@
+//! Frames whose displacements and loads are known in closed form. The values were worked out outside the program, to 60 digits, by
+//! the formulas that stand beside each frame: E = 200,000 MPa, the tube of 100 mm by 10 mm has I = pi (0.1^4 - 0.08^4) / 64 m^4
+//! and A = pi (0.1^2 - 0.08^2) / 4 m^2, G J = E I / 1.3, and each anchor of 10^10 N/m and N m/rad gives way too.
+use crate::makers::{TUBE, check_all_forces};
+use accepted_text::accept;
+use case_run::answers;
+use model_types::{Bounds, CaseAnswer};
+use std::alloc::Global;
+use std::process::Abort;
+
+// A number of a frame: its place among the bounds, and what is left of it where it is rounded down to 2^-56 m or rad, or to 2^-40 N
+// or N m.
+type Known = (usize, i128);
+
+// No pair is wider: 60 nm and nrad, or 4 mN and mN m.
+const WIDEST: i128 = 1 << 32;
+
+// The answers of the cases of a frame of tubes.
+fn answers_of(rt: &impl Abort, alloc: Global, frame: &str) -> Vec<CaseAnswer> {
+    let mut text = TUBE.to_string(alloc).expect(rt, "memory");
+    text.push_str(frame).expect(rt, "memory");
+    let accepted = accept(alloc, text.as_bytes()).expect(rt, "a model and its tree");
+    check_all_forces(rt, &accepted.model);
+    let tree = &accepted.tree;
+    answers(alloc, &accepted.model, tree.order(), tree.node_parents()).expect(rt, "memory")
+}
+
+// The first case of a frame is certified, and its bounds enclose these numbers closely.
+fn check(rt: &impl Abort, alloc: Global, frame: &str, displacements: &[Known], loads: &[Known]) {
+    match answers_of(rt, alloc, frame).first() {
+        Some(CaseAnswer::Certified { u, loads: on, .. }) => {
+            enclose(rt, u.as_slice(), displacements);
+            enclose(rt, on.as_slice(), loads);
+        }
+        _ => assert!(rt; false, "no bounds"),
+    }
+}
+
+// Bounds enclose numbers closely.
+fn enclose(rt: &impl Abort, bounds: &[Bounds], known: &[Known]) {
+    for number in 0..known.len() {
+        let (place, least) = known[number];
+        assert!(rt; place < bounds.len(), "a place");
+        encloses(rt, &bounds[place], least);
+    }
+}
+
+// A number that is rounded down to `least` lies within, and not much else.
+fn encloses(rt: &impl Abort, bounds: &Bounds, least: i128) {
+    assert!(rt; bounds.lo <= least, "the lower end");
+    assert!(rt; least < bounds.hi, "the upper end");
+    let width = bounds.hi.checked_sub(bounds.lo).expect(rt, "a width");
+    assert!(rt; width < WIDEST, "a narrow pair");
+}
+
+// A cantilever of L = 3 m whose end can't turn, with F = 1,000 N down at it. With the anchor's k and the K of 10^9 N m/rad that
+// holds the end, the end's moment is M = F (L^2 / 2 E I + L / k) / (L / E I + 1 / k + 1 / K), near F L / 2, and the end sinks by
+// F (L^3 / 3 E I + L^2 / k + 1 / k) - M (L^2 / 2 E I + L / k) = 3.884403 mm, near F L^3 / 12 E I.
+#[test]
+fn guided_cantilever(rt: HostRuntime) {
+    check(
+        &rt,
+        rt.alloc(),
+        "node a 0 0 0
+node b 3000000 0 0
+straight p a b s
+anchor A a - -
+twist G b 0 1 0 -
+case tip 0 0 0 0 0 0
+force tip b 0 0 -1000000 0 0 0
+",
+        &[(8, -279_900_700_460_069)],
+        &[(6, 1_648_980_716_180_819)],
+    );
+}
+
+// A cantilever of L = 4 m on a prop of K = 10^9 N/m at its end, with P = 5,000 N down at c = 2 m. Where f(x, y) is what the
+// cantilever sinks at x under a unit load at y, f(c, c) = c^3 / 3 E I + c^2 / k + 1 / k, f(c, L) = c^2 (3 L - c) / 6 E I + c L / k + 1 / k and
+// f(L, L) = L^3 / 3 E I + L^2 / k + 1 / k, the prop bears R = P f(c, L) / (f(L, L) + 1 / K) = 1,562.508 N, near 5 P / 16, and the
+// pipe sinks at c by P f(c, c) - R f(c, L) = 5.033005 mm, near 7 P L^3 / 768 E I.
+#[test]
+fn propped_cantilever(rt: HostRuntime) {
+    check(
+        &rt,
+        rt.alloc(),
+        "node a 0 0 0
+node c 2000000 0 0
+node b 4000000 0 0
+straight p a c s
+straight q c b s
+anchor A a - -
+linear R b 0 0 1 -
+case mid 0 0 0 0 0 0
+force mid c 0 0 -5000000 0 0 0
+",
+        &[(8, -362_666_228_416_532)],
+        &[(6, -1_717_995_319_729_606)],
+    );
+}
+
+// A portal of columns of h = 3 m and a beam of l = 4 m, built in at both feet, with F = 10,000 N sideways at each knee. The middle of the
+// beam bends, stretches and sinks by nothing; so with b = l / 2 the shear there is
+// V = F (h^2 b / 2 E I + h b / k) / (b^3 / 3 E I + b^2 h / E I + h / E A + b^2 / k + 1 / k) = 6,135.193 N, the knees sway by
+// F (h^3 / 3 E I + h^2 / k + 1 / k) - V (b h^2 / 2 E I + b h / k) = 60.016378 mm, the first rises by V (h / E A + 1 / k) = 33.162 micrometres, and the
+// feet bear V and F h - V b = 17,729.614 N m.
+#[test]
+fn portal(rt: HostRuntime) {
+    check(
+        &rt,
+        rt.alloc(),
+        "node a 0 0 0
+node c 0 0 3000000
+node d 4000000 0 3000000
+node b 4000000 0 0
+straight p a c s
+straight q c d s
+straight r d b s
+anchor A a - -
+anchor B b - -
+case wind 0 0 0 0 0 0
+force wind c 10000000 0 0 0 0 0
+force wind d 10000000 0 0 0 0 0
+",
+        &[(6, 4_324_635_775_840_115), (8, 2_389_554_497_904)],
+        &[(2, 6_745_716_289_921_665), (4, 19_493_916_253_436_669)],
+    );
+}
+
+// A square expansion loop, 3 m out and 2 m wide between two runs of 4 m, built in at one end with k' = 10^9 N m/rad; the other end is guided
+// by K = 10^9 N m/rad and is pushed in by F = 2,000 N, which is the force of an end movement of 75.7 mm. The loop's middle is one of mirror symmetry, so nothing
+// acts across the line; with y the distance from it, the integrals over the line S = 16 m, Y = 15 m^2 and Q = 36 m^3 of 1, y and y^2, and
+// 10 m along it, the ends bear M = F Y / E I / (S / E I + 1 / k' + 1 / K) = 1,874.864 N m, and the movement is
+// F (Q / E I + 10 / E A + 1 / k) - M Y / E I.
+#[test]
+fn expansion_loop(rt: HostRuntime) {
+    check(
+        &rt,
+        rt.alloc(),
+        "node a 0 0 0
+node p 4000000 0 0
+node q 4000000 3000000 0
+node r 6000000 3000000 0
+node t 6000000 0 0
+node b 10000000 0 0
+straight e1 a p s
+straight e2 p q s
+straight e3 q r s
+straight e4 r t s
+straight e5 t b s
+anchor A a - 1000000000
+twist G b 0 0 1 -
+linear R b 0 1 0 -
+case hot 0 0 0 0 0 0
+force hot b -2000000 0 0 0 0 0
+",
+        &[(30, -5_457_262_198_406_325)],
+        &[(6, -2_061_434_944_973_979), (7, 0)],
+    );
+}
+
+// Three legs at right angles, of 2 m along x, 1.5 m along y and 1 m along z from the anchor, with F = 3,000 N along y at the end. With the legs'
+// lengths a, b and c the end moves by -F b (a^2 / 2 E I + a / k) along x, by
+// F (c^3 / 3 E I + b / E A + c^2 b / E I + c^2 a / G J + a^3 / 3 E I + 1 / k + c^2 / k + a^2 / k) along y, and by
+// -F c (b^2 / 2 E I + b a / G J + b / k) along z: -15.528, 36.758 and -26.009 mm.
+#[test]
+fn space_bend(rt: HostRuntime) {
+    check(
+        &rt,
+        rt.alloc(),
+        "node a 0 0 0
+node c 2000000 0 0
+node d 2000000 1500000 0
+node b 2000000 1500000 1000000
+straight p a c s
+straight q c d s
+straight r d b s
+anchor A a - -
+case pull 0 0 0 0 0 0
+force pull b 0 3000000 0 0 0 0
+",
+        &[
+            (18, -1_118_925_561_926_861),
+            (19, 2_648_673_467_001_458),
+            (20, -1_874_124_115_321_796),
+        ],
+        &[],
+    );
+}
