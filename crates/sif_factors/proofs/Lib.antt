@@ -1,3 +1,4 @@
 pub mod PartLemmas
 pub mod IndexLemmas
 pub mod RangeLemmas
+mod CycleLemmas

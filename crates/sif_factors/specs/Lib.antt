@@ -4,3 +4,4 @@ pub mod Inverse
 pub mod Characteristic
 pub mod Rounded
 pub mod Factors
+pub mod Cycles

@@ -1,4 +1,4 @@
-//! Flexibility and stress intensification factors of bends and tees, enclosed (ASME B31.3-2016, Appendix D).
+//! Flexibility and stress intensification factors of bends and tees (ASME B31.3-2016, Appendix D), and the factor of a number of cycles, enclosed.
 #![tactic(auto)]
 
 ghost use Rattle.std.specs.Prelude.{◌≡◌, Ok, ◌^◌, pos};
@@ -13,7 +13,10 @@ use flex_interval::{Iv, point};
 use model_types::{Section, TeeKind};
 
 mod characteristic;
+mod cycles;
 mod index;
+
+pub use cycles::cycle_factor;
 
 /// The factors of a bend or a tee.
 #[derive(Clone, Copy)]

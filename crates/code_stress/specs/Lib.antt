@@ -1,0 +1,5 @@
+pub mod Action
+pub mod Direct
+pub mod Bend
+pub mod Straight
+pub mod Station

@@ -1,0 +1,3 @@
+pub mod FromZero
+pub mod Bounds
+pub mod EnclosureLemmas

@@ -1,0 +1,10 @@
+//! The terms of the stress of a station and how they combine (ASME B31.3-2016, 319.4.4), enclosed.
+#![tactic(auto)]
+
+mod combination;
+mod sizes;
+mod terms;
+
+pub use combination::combined;
+pub use sizes::{size, squared, sum};
+pub use terms::{axial, bending, intensified};
