@@ -1,10 +1,9 @@
 -- Sizes in the recurrence: where the nodes before pass, no number that decides leaves 128 bits.
-use Rattle.std.proofs.Common.{◌≡◌, ℕ, zero, suc, ◌+◌, ◌*◌, ◌^◌, ◌<◌, ◌≤◌, Bool, true, false, List, Option, ◌∙◌, ap, arith, mul-le-mul_right, mul-le-mul, cond, eqb, inl, inr, ℤ, pos, negsuc, ◌+ℤ◌, ◌-ℤ◌, ◌*ℤ◌, ◌≤ℤ◌, ◌<ℤ◌, neg_ℤ, unsigned_abs}
-use Rattle.std.proofs.lemmas.Int.{ints, by_lt_z, unsigned_abs-mul}
+use Rattle.std.proofs.Common.{◌≡◌, ℕ, zero, suc, ◌+◌, ◌*◌, ◌^◌, ◌<◌, ◌≤◌, Bool, true, false, List, Option, ◌∙◌, ap, arith, mul-le-mul_right, cond, eqb, inl, inr, ℤ, pos, ◌+ℤ◌, ◌-ℤ◌, ◌*ℤ◌, ◌≤ℤ◌, ◌<ℤ◌, neg_ℤ, unsigned_abs}
+use Rattle.std.proofs.lemmas.Int.{unsigned_abs-mul}
 use Rattle.int_laws.proofs.Sums.{int_sums}
 use Rattle.int_laws.proofs.Products.{mul_comm, add-mul, mul-add, sub-mul, mul-sub, square_nonnegative, square_large}
 use Rattle.int_laws.specs.Division.{nearest_of}
-use Rattle.int_laws.specs.Root.{root_of}
 use Rattle.int_laws.proofs.DivisionLemmas.{nearest_of-zero}
 use Rattle.int_laws.proofs.RootLemmas.{root_of-is}
 use Rattle.int_laws.specs.Sums.{sum_below}
@@ -17,7 +16,7 @@ use Rattle.int_laws.proofs.SumLaws.{sum_below-nonnegative, sum_below-by_six, sum
 use Rattle.cholesky_laws.proofs.SubtreeLemmas.{picked, names, node_squares, squares-children, squares-subtree_sum}
 
 -- twice a product is at most the sum of the squares, either way
-product_within : (x y : ℤ) → ((x *ℤ y +ℤ x *ℤ y) ≤ℤ (x *ℤ x +ℤ y *ℤ y)) × (neg_ℤ (x *ℤ x +ℤ y *ℤ y) ≤ℤ (x *ℤ y +ℤ x *ℤ y))
+pub product_within : (x y : ℤ) → ((x *ℤ y +ℤ x *ℤ y) ≤ℤ (x *ℤ x +ℤ y *ℤ y)) × (neg_ℤ (x *ℤ x +ℤ y *ℤ y) ≤ℤ (x *ℤ y +ℤ x *ℤ y))
 product_within x y =
     let apart = square_nonnegative (x -ℤ y) in
     let together = square_nonnegative (x +ℤ y) in

@@ -3,3 +3,10 @@ pub mod PanelLemmas
 pub mod SubtreeLemmas
 pub mod BoundLemmas
 pub mod DeterminedLemmas
+pub mod FillLemmas
+pub mod TreeLemmas
+pub mod TriangleLemmas
+pub mod FrontLemmas
+pub mod FrontBoundLemmas
+pub mod EliminatedLemmas
+pub mod FrontLawLemmas

@@ -10,12 +10,12 @@ use Rattle.cholesky_laws.proofs.RecurrenceLemmas.{cases_pivot, cholesky-broken, 
 
 -- the same after c more columns
 abbrev AgreesAfter : (a w : ℕ → ℕ → ℤ) (m rows : ℕ) (f : ℕ → ℕ) → ℕ → Type 0
-AgreesAfter a w m rows f c = (r k : ℕ) → r < rows → k < 6 → left_after w c r k ≡ left_after a (m + c) (f r) (m + k)
+AgreesAfter a w m rows f c = (r k : ℕ) → r < rows → k < 6 → k ≤ r → left_after w c r k ≡ left_after a (m + c) (f r) (m + k)
 
 same_pivot : {a w : ℕ → ℕ → ℤ} {m rows : ℕ} {f : ℕ → ℕ} (p : HoldsRemainder a w m rows f) (c : ℕ) → c < 6 → AgreesAfter a w m rows f c → pivot w c ≡ pivot a (m + c)
 same_pivot {a} {w} {m} {rows} {f} p c lt same =
     let wide = p.whole in
-    same c c (omega arith) lt ∙ ap (λ i. left_after a (m + c) i (m + c)) (p.own c lt)
+    same c c (omega arith) lt (omega arith) ∙ ap (λ i. left_after a (m + c) i (m + c)) (p.own c lt)
 
 same_entry : {a w : ℕ → ℕ → ℤ} {m rows : ℕ} {f : ℕ → ℕ} (p : HoldsRemainder a w m rows f) (r c : ℕ) → r < rows → c < 6 → AgreesAfter a w m rows f c → cholesky w r c ≡ cholesky a (f r) (m + c)
 same_entry {a} {w} {m} {rows} {f} p r c in' lt same =
@@ -41,7 +41,7 @@ same_entry {a} {w} {m} {rows} {f} p r c in' lt same =
                       elim (cases_lt r 6) [ inl own ↦ (let e = p.own r own in omega arith) | inr later ↦ (let e = p.later r later in' in omega arith) ]
                       in
                       cholesky-below w r c (omega arith) w-ok
-                      ∙ ap (λ z. nearest_of z (cholesky w c c)) (same r c in' lt)
+                      ∙ ap (λ z. nearest_of z (cholesky w c c)) (same r c in' lt (omega arith))
                       ∙ ap (λ z. nearest_of (left_after a (m + c) (f r) (m + c)) z) diagonal
                       ∙ sym (cholesky-below a (f r) (m + c) past ok)
                 ]
@@ -49,12 +49,12 @@ same_entry {a} {w} {m} {rows} {f} p r c in' lt same =
     ]
 
 agrees : {a w : ℕ → ℕ → ℤ} {m rows : ℕ} {f : ℕ → ℕ} (p : HoldsRemainder a w m rows f) (c : ℕ) → c ≤ 6 → AgreesAfter a w m rows f c
-agrees {a} {w} {m} {rows} {f} p zero le r k in' kl =
-    left_after-none w r k ∙ p.left r k in' kl ∙ ap (λ x. left_after a x (f r) (m + k)) (sym (add-zero m))
-agrees {a} {w} {m} {rows} {f} p (suc c) le r k in' kl =
+agrees {a} {w} {m} {rows} {f} p zero le r k in' kl kr =
+    left_after-none w r k ∙ p.left r k in' kl kr ∙ ap (λ x. left_after a x (f r) (m + k)) (sym (add-zero m))
+agrees {a} {w} {m} {rows} {f} p (suc c) le r k in' kl kr =
     let before = agrees p c (omega arith) in
     let wide = p.whole in
-    let here = before r k in' kl in
+    let here = before r k in' kl kr in
     let entry = same_entry p r c in' (omega arith) before in
     let entry' : cholesky w k c ≡ cholesky a (m + k) (m + c) =
     same_entry p k c (omega arith) (omega arith) before ∙ ap (λ i. cholesky a i (m + c)) (p.own k kl)

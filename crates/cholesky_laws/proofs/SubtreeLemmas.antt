@@ -8,6 +8,7 @@ use Rattle.int_laws.specs.Sums.{sum_below}
 use Rattle.cholesky_laws.specs.Recurrence.{cholesky}
 use Rattle.elimination.specs.Elimination.{parent_of, met_from, is_in_subtree}
 use Rattle.cholesky_laws.specs.Breakdown.{squares}
+use Rattle.cholesky_laws.specs.Fronts.{subtree_products}
 use Rattle.int_laws.proofs.SumLaws.{sum_below-same, sum_below-zero, sum_below-add, sum_below-cut, sum_below-by_six}
 
 -- a number where a test holds, else 0
@@ -86,26 +87,51 @@ subtree_sum-children parents f n =
     let rest = sum_up parents n f n (omega arith) in
     omega (arith, int_sums)
 
--- the squares of a row over a subtree, node by node
-pub squares-subtree_sum : (a : ℕ → ℕ → ℤ) (parents : List (Option ℕ)) (n i : ℕ) → squares a parents n i ≡ subtree_sum parents (node_squares a i) n
-unfolding squares
-squares-subtree_sum a parents n i =
-    let term = λ (k : ℕ). picked (is_in_subtree parents n (k / 6)) (cholesky a i k *ℤ cholesky a i k) in
-    let P : ℕ → Type 0 = λ x. sum_below x term ≡ subtree_sum parents (node_squares a i) n in
+-- the products of two rows' entries in one node's columns
+abbrev pub node_products : (ℕ → ℕ → ℤ) → ℕ → ℕ → ℕ → ℤ
+node_products a i j n = sum_below 6 (λ c. cholesky a i (6 * n + c) *ℤ cholesky a j (6 * n + c))
+
+-- the products of two rows over a subtree, node by node
+pub products-subtree_sum : (a : ℕ → ℕ → ℤ) (parents : List (Option ℕ)) (n i j : ℕ) → subtree_products a parents n i j ≡ subtree_sum parents (node_products a i j) n
+unfolding subtree_products
+products-subtree_sum a parents n i j =
+    let term = λ (k : ℕ). picked (is_in_subtree parents n (k / 6)) (cholesky a i k *ℤ cholesky a j k) in
+    let P : ℕ → Type 0 = λ x. sum_below x term ≡ subtree_sum parents (node_products a i j) n in
     let whole : 6 * suc n ≡ 6 * n + 6 = omega arith in
     subst P whole
     (sum_below-by_six (suc n) term
-    ∙ sum_below-same (suc n) _ (λ m. picked (is_in_subtree parents n m) (node_squares a i m))
+    ∙ sum_below-same (suc n) _ (λ m. picked (is_in_subtree parents n m) (node_products a i j m))
     (λ m lt.
-    sum_below-same 6 (λ c. term (6 * m + c)) (λ c. picked (is_in_subtree parents n m) (cholesky a i (6 * m + c) *ℤ cholesky a i (6 * m + c)))
+    sum_below-same 6 (λ c. term (6 * m + c)) (λ c. picked (is_in_subtree parents n m) (cholesky a i (6 * m + c) *ℤ cholesky a j (6 * m + c)))
     (λ c cl.
     let at : (6 * m + c) / 6 ≡ m = omega arith in
-    ap (λ x. picked (is_in_subtree parents n x) (cholesky a i (6 * m + c) *ℤ cholesky a i (6 * m + c))) at)
-    ∙ sum_below-picked (is_in_subtree parents n m) 6 (λ c. cholesky a i (6 * m + c) *ℤ cholesky a i (6 * m + c))))
+    ap (λ x. picked (is_in_subtree parents n x) (cholesky a i (6 * m + c) *ℤ cholesky a j (6 * m + c))) at)
+    ∙ sum_below-picked (is_in_subtree parents n m) 6 (λ c. cholesky a i (6 * m + c) *ℤ cholesky a j (6 * m + c))))
+
+-- the node's own products and those of its children
+pub products-children : (a : ℕ → ℕ → ℤ) (parents : List (Option ℕ)) (n i j : ℕ) → subtree_products a parents n i j ≡ node_products a i j n +ℤ sum_below n (λ d. picked (names n (parent_of parents d)) (subtree_products a parents d i j))
+products-children a parents n i j =
+    products-subtree_sum a parents n i j
+    ∙ subtree_sum-children parents (node_products a i j) n
+    ∙ ap (λ z. node_products a i j n +ℤ z) (sum_below-same n _ _ (λ d lt. ap (picked (names n (parent_of parents d))) (sym (products-subtree_sum a parents d i j))))
+
+-- the squares of a row are its products with itself
+pub squares-products : (a : ℕ → ℕ → ℤ) (parents : List (Option ℕ)) (n i : ℕ) → squares a parents n i ≡ subtree_products a parents n i i
+unfolding squares subtree_products
+squares-products a parents n i = refl
+
+pub squares-subtree_sum : (a : ℕ → ℕ → ℤ) (parents : List (Option ℕ)) (n i : ℕ) → squares a parents n i ≡ subtree_sum parents (node_squares a i) n
+squares-subtree_sum a parents n i = squares-products a parents n i ∙ products-subtree_sum a parents n i i
 
 -- the node's own squares and those of its children
 pub squares-children : (a : ℕ → ℕ → ℤ) (parents : List (Option ℕ)) (n i : ℕ) → squares a parents n i ≡ node_squares a i n +ℤ sum_below n (λ d. picked (names n (parent_of parents d)) (squares a parents d i))
 squares-children a parents n i =
-    squares-subtree_sum a parents n i
-    ∙ subtree_sum-children parents (node_squares a i) n
-    ∙ ap (λ z. node_squares a i n +ℤ z) (sum_below-same n _ _ (λ d lt. ap (picked (names n (parent_of parents d))) (sym (squares-subtree_sum a parents d i))))
+    squares-products a parents n i
+    ∙ products-children a parents n i i
+    ∙ ap (λ z. node_squares a i n +ℤ z) (sum_below-same n _ _ (λ d lt. ap (picked (names n (parent_of parents d))) (sym (squares-products a parents d i))))
+
+-- the products of the columns of a node's children, each over its subtree, are those of the columns of its subtree before it
+pub sum_up-products : (a : ℕ → ℕ → ℤ) (parents : List (Option ℕ)) (n i j : ℕ) → sum_below n (λ m. picked (is_in_subtree parents n m) (node_products a i j m)) ≡ sum_below n (λ d. picked (names n (parent_of parents d)) (subtree_products a parents d i j))
+sum_up-products a parents n i j =
+    sum_up parents n (node_products a i j) n (omega arith)
+    ∙ sum_below-same n _ _ (λ d lt. ap (picked (names n (parent_of parents d))) (sym (products-subtree_sum a parents d i j)))

@@ -1,12 +1,14 @@
 -- The laws of the recurrence, for every matrix.
-use Rattle.std.specs.Prelude.{◌≡◌, ℕ, suc, ◌+◌, ◌*◌, ◌^◌, ◌<◌, ◌≤◌, List, Option, if◌then◌else◌, ℤ, pos, ◌+ℤ◌, ◌-ℤ◌, ◌*ℤ◌, ◌≤ℤ◌, ◌<ℤ◌}
+use Rattle.std.specs.Prelude.{◌≡◌, ℕ, suc, ◌+◌, ◌*◌, ◌/◌, ◌^◌, ◌<◌, ◌≤◌, List, Contains, Option, if◌then◌else◌, ℤ, pos, ◌+ℤ◌, ◌-ℤ◌, ◌*ℤ◌, ◌≤ℤ◌, ◌<ℤ◌}
 use Rattle.std.specs.Int.RustNames.{unsigned_abs}
 use Rattle.int_laws.specs.Division.{nearest_of}
 use Rattle.int_laws.specs.Root.{root_of}
 use Rattle.int_laws.specs.Sums.{sum_below}
+use Rattle.lists.specs.Lists.{list_of}
 use Rattle.elimination.specs.Elimination.{is_parent}
 use Rattle.cholesky_laws.specs.Recurrence.{cholesky, left_after, pivot, scaled_stiffness}
 use Rattle.cholesky_laws.specs.Breakdown.{squares}
+use Rattle.cholesky_laws.specs.Fill.{IsOnPattern, IsClosed}
 
 -- the entries of the factor, by what is left when their column comes
 pub record EntryLaws : Type 0 where
@@ -38,10 +40,11 @@ pub record SubtreeLaws : Type 0 where
   pub children : (a : ℕ → ℕ → ℤ) (parents : List (Option ℕ)) (n i : ℕ) →
       squares a parents n i ≡ sum_below 6 (λ c. cholesky a i (6 * n + c) *ℤ cholesky a i (6 * n + c)) +ℤ sum_below n (λ d. if is_parent parents n d then squares a parents d i else pos 0)
 
--- w holds what is left of `a` after m columns, in the columns m to m + 5 and the rows that f names, its own six first
+-- w holds what is left of `a` after m columns, in the columns m to m + 5 and the rows that f names, its own six first, on and
+-- below its diagonal
 pub record HoldsRemainder (a w : ℕ → ℕ → ℤ) (m rows : ℕ) (f : ℕ → ℕ) : Type 0 where
   pub whole : 6 ≤ rows
-  pub left : (r c : ℕ) → r < rows → c < 6 → w r c ≡ left_after a m (f r) (m + c)
+  pub left : (r c : ℕ) → r < rows → c < 6 → c ≤ r → w r c ≡ left_after a m (f r) (m + c)
   pub own : (c : ℕ) → c < 6 → f c ≡ m + c
   pub later : (r : ℕ) → 6 ≤ r → r < rows → m + 6 ≤ f r
 
@@ -50,6 +53,12 @@ pub record PanelLaws : Type 0 where
   pub entries : (a w : ℕ → ℕ → ℤ) (m rows : ℕ) (f : ℕ → ℕ) → HoldsRemainder a w m rows f → (r c : ℕ) → r < rows → c < 6 → cholesky w r c ≡ cholesky a (f r) (m + c)
   pub pivots : (a w : ℕ → ℕ → ℤ) (m rows : ℕ) (f : ℕ → ℕ) → HoldsRemainder a w m rows f → (c : ℕ) → c < 6 → pivot w c ≡ pivot a (m + c)
 
+-- the factor of a matrix on a closed pattern, a list of later nodes for each, has entries past a node's own rows only in
+-- those of the nodes that it lists
+abbrev pub NoFill : Type 0
+NoFill = (a : ℕ → ℕ → ℤ) (later : List (List ℕ)) (size : ℕ) → IsClosed (λ p q. Contains (list_of later p) q) size → IsOnPattern a (λ p q. Contains (list_of later p) q) size →
+    (i k : ℕ) → i < 6 * size → k / 6 < i / 6 → (Contains (list_of later (k / 6)) (i / 6) → ⊥) → cholesky a i k ≡ pos 0
+
 -- all of them
 pub record RecurrenceLaws : Type 0 where
   pub entries : EntryLaws
@@ -57,3 +66,4 @@ pub record RecurrenceLaws : Type 0 where
   pub sizes : SizeLaws
   pub subtrees : SubtreeLaws
   pub panels : PanelLaws
+  pub fill : NoFill

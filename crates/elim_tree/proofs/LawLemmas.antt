@@ -1,19 +1,19 @@
 -- One tree for an order, and the fill within its rows.
 use Rattle.std.proofs.Common.{◌≡◌, ◌≢◌, ℕ, suc, ◌+◌, ◌*◌, ◌/◌, ◌%◌, ◌^◌, cond, ap₂, ◌<◌, List, [], ◌∷◌, length, get_or, Contains, inl, inr, ◌↔◌, ◌∙◌, sym, ap, arith, subst, ℤ, pos, ◌-ℤ◌, ◌*ℤ◌}
 use Rattle.std.proofs.lemmas.Bool.{cases_lt, cases_eq, ne_eqb}
-use Rattle.std.proofs.lemmas.List.{same_lists, get_or_default}
+use Rattle.std.proofs.lemmas.List.{same_lists, get_or_default, get_or_past}
 use Rattle.lists.specs.Lists.{list_of}
 use Rattle.lists.proofs.UniqueLemmas.{rising_unique}
 use Rattle.cholesky_laws.specs.Laws.{RecurrenceLaws}
 use Rattle.cholesky_laws.specs.Recurrence.{cholesky, scaled_stiffness}
 use Rattle.lists.specs.Rows.{freedom_at}
-use Rattle.cholesky_laws.specs.Fill.{IsOnPattern}
-use Rattle.elim_tree.proofs.FillLemmas.{no_fill}
+use Rattle.cholesky_laws.specs.Fill.{IsOnPattern, IsClosed}
+use Rattle.elim_tree.proofs.JoinedLemmas.{later_from_linked, later_closed}
 use Rattle.elim_order.specs.Graph.{links}
 use Rattle.elim_order.specs.Determined.{LinkAlike}
 use Rattle.elim_tree.specs.Fronts.{Fronts, rows_at, front_rows, entries_of}
 use Rattle.elim_tree.specs.Tree.{placed, AreLater, IsTreeOf, HasManyEntries}
-use Rattle.elim_tree.proofs.HeadLemmas.{length-listed, listed_read}
+use Rattle.elim_tree.proofs.HeadLemmas.{contains_none, length-listed, listed_read}
 use Rattle.elim_tree.proofs.PlacedLemmas.{later_same}
 
 placed_alike : (pairs others : List (ℕ × ℕ)) (order : List ℕ) → LinkAlike pairs others → (p q : ℕ) → p < q → placed (links pairs) order p q ↔ placed (links others) order p q
@@ -56,6 +56,14 @@ in_rows places i (k, lt, is) =
     let read : freedom_at places s ≡ 6 * get_or places k 0 + i % 6 = ap (λ (x : ℕ). 6 * get_or places x 0 + s % 6) at ∙ ap (λ (x : ℕ). 6 * get_or places k 0 + x) off in
     (s, omega (arith, long, sl), row ∙ read ∙ (let e : 6 * get_or places k 0 + i % 6 ≡ i = omega (arith, value) in e))
 
+-- the lists of later neighbours are closed
+later_lists_closed : (linked : ℕ → ℕ → Type 0) (size : ℕ) (later : List (List ℕ)) → AreLater linked size later → IsClosed (λ p q. Contains (list_of later p) q) size
+later_lists_closed linked size later is k p q lt ql hp hq =
+    elim (cases_lt k size) [
+      | inl in' ↦ (is.members p q (omega arith)).1 (later_closed linked k p q lt ((is.members k p in').0 hp) ((is.members k q in').0 hq))
+      | inr past ↦ absurd (contains_none (subst (λ (xs : List ℕ). Contains xs p) (get_or_past later k [] (omega (arith, is.count))) hp))
+    ]
+
 pub fill_in_rows : RecurrenceLaws → (pairs : List (ℕ × ℕ)) (order : List ℕ) (t : Fronts) (a : ℕ → ℕ → ℤ) → IsTreeOf (placed (links pairs) order) order t → IsOnPattern a (placed (links pairs) order) (length order) → (i k : ℕ) → i < 6 * length order → k < 6 * length order → (Contains (list_of (front_rows t) (k / 6)) i → ⊥) → cholesky a i k ≡ pos 0
 fill_in_rows laws pairs order t a is on i k il kl out =
     let linked = placed (links pairs) order in
@@ -67,8 +75,11 @@ fill_in_rows laws pairs order t a is on i k il kl out =
     let no : Contains (f ∷ list_of t.later f) (i / 6) → ⊥ = λ h. out (subst P (sym read) (in_rows (f ∷ list_of t.later f) i h)) in
     elim (cases_lt f (i / 6)) [
       | inl past ↦
-          no_fill laws a linked (length order) on k i il past
-          (λ later. no (let (n, nl, e) = (is.later_are.members f (i / 6) fl).1 later in (suc n, omega arith, e)))
+          laws.fill a t.later (length order)
+          (later_lists_closed linked (length order) t.later is.later_are)
+          (λ m n ml below absent. on m n ml below (λ h. absent ((is.later_are.members (n / 6) (m / 6) (omega arith)).1 (later_from_linked linked (n / 6) (m / 6) below h))))
+          i k il past
+          (λ in'. no (let (n, nl, e) = in' in (suc n, omega arith, e)))
       | inr from ↦
           elim (cases_eq f (i / 6)) [
             | inl same ↦ absurd (no (0, omega arith, same))

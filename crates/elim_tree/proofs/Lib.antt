@@ -6,4 +6,3 @@ pub mod PartLemmas
 pub mod ShapeLemmas
 pub mod LawLemmas
 pub mod JoinedLemmas
-pub mod FillLemmas

@@ -61,7 +61,7 @@ panel_left {a} {size} {n} {nodes} {work} f w =
     let some = first.0 in
     record {
       whole = omega arith;
-      left = λ r c rl cl.
+      left = λ r c rl cl cr.
           let p = r / 6 in
           let p-in : p < length nodes = omega arith in
           let q = get_or nodes p 0 in
@@ -301,7 +301,7 @@ diagonal_low laws {a} {size} {n} {nodes} {work} small f w c cl =
     let p = panel_left f w in
     let whole = p.whole in
     let is : by_rows work c c ≡ left_after a (6 * n) (6 * n + c) (6 * n + c) =
-    p.left c c (omega arith) cl ∙ ap (λ (x : ℕ). left_after a (6 * n) x (6 * n + c)) (p.own c cl)
+    p.left c c (omega arith) cl (omega arith) ∙ ap (λ (x : ℕ). left_after a (6 * n) x (6 * n + c)) (p.own c cl)
     in
     rw is (laws.sizes.diagonal a (6 * n) (6 * n + c) (small (6 * n + c) (6 * n + c)))
 
