@@ -1,5 +1,5 @@
 //! A pipe of three straights between two anchors: its members by hand, and the first of two straights that are too stiff.
-use crate::makers::{check_anchors, model};
+use crate::makers::model;
 use flex_interval::Iv;
 use member_set::{Built, Member};
 use model_types::ElementId;
@@ -17,7 +17,6 @@ anchor B d 5 -
 
 fn built(rt: &impl Abort, alloc: Global, nodes: &str) -> Result<Built, BuildFault> {
     let m = model(rt, alloc, &[nodes, PIPE]);
-    check_anchors(rt, &m);
     build(alloc, &m)
 }
 

@@ -5,3 +5,4 @@ pub mod StiffLaw
 pub mod PlacedLaw
 pub mod NumbersLaw
 pub mod CountLaw
+pub mod RestraintLaw

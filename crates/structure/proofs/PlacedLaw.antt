@@ -15,7 +15,7 @@ use Rattle.member_pairs.specs.Lengths.{IsLengthWithin}
 use Rattle.member_pairs.specs.Pairs.{EnclosesMember}
 use Rattle.pipe_element.specs.ExactStraight.{Mode, axial, torsion, bending, shear, stiffness_of, shape_of}
 use Rattle.pipe_element.specs.Straight.{mode_number, EnclosesStraight}
-use Rattle.structure.specs.Anchors.{restraint_members}
+use Rattle.restraint_law.specs.Restraints.{restraint_members}
 use Rattle.structure.specs.Elements.{members_of_element, element_at, span_of, tube_of_element, member_count_below}
 use Rattle.structure.specs.Enclosure.{EnclosesElement, EachEncloses, EnclosesElements}
 use Rattle.structure.specs.Structure.{with_element, element_members, model_members, IsStructureOf}

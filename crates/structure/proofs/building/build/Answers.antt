@@ -4,6 +4,7 @@ use Rattle.structure.specs.Sound.{AreMembers}
 use Rattle.structure.specs.declared.fault.BuildFault.TheVariants as faults
 use Rattle.structure.proofs.BuildingLemmas.{IsStructureOf-from, nodes_in_range, stiff}
 use Rattle.structure.proofs.PlacedLaw.{encloses_elements}
+use Rattle.structure.proofs.RestraintLaw.{all_linear, encloses_restraints}
 use Rattle.structure.proofs.building.build.Goals as goal
 
 pub returns-in_err-members-clause-wide : goal.returns-in_err-members-clause-wide
@@ -22,9 +23,9 @@ touching-requires-clause-in_range c =
 pub returns-clause-structure : goal.returns-clause-structure
 returns-clause-structure c =
     let are = subst (AreMembers c.args.m.now) (sym c.new.ensures) c.in_ok-members.ensures.members in
-    let count = ap (λ (xs : List (List ℕ)). length xs) c.new-6.ensures ∙ c.in_ok-at.ensures.count ∙ ap length c.nodes.ensures.records in
-    let lists = rw (← c.new-6.ensures, c.deref.ensures.value, ← c.new.ensures) at c.in_ok-at.ensures.lists in
-    IsStructureOf-from c.args.m.now _ c.nodes.ensures.model are count lists (c.new-3.ensures ∙ c.new-2.ensures.items) (c.new-5.ensures ∙ c.new-4.ensures.items)
+    let count = ap (λ (xs : List (List ℕ)). length xs) c.new-5.ensures ∙ c.in_ok-at.ensures.count ∙ ap length c.nodes.ensures.records in
+    let lists = rw (← c.new-5.ensures, c.deref.ensures.value, ← c.new.ensures) at c.in_ok-at.ensures.lists in
+    IsStructureOf-from c.args.m.now _ c.nodes.ensures.model are count lists (c.new-2.ensures ∙ c.in_ok-unilateral.ensures) (c.new-4.ensures ∙ c.new-3.ensures.items)
 
 pub returns-clause-stiff : goal.returns-clause-stiff
 returns-clause-stiff c =
@@ -33,3 +34,9 @@ returns-clause-stiff c =
 
 pub returns-clause-encloses : goal.returns-clause-encloses
 returns-clause-encloses c = encloses_elements c.args.m.now _ (returns-clause-structure c) c.in_ok-members.ensures.encloses
+
+pub returns-clause-holds : goal.returns-clause-holds
+returns-clause-holds c = encloses_restraints c.args.m.now _ (returns-clause-structure c) c.in_ok-members.ensures.holds
+
+pub returns-clause-linear : goal.returns-clause-linear
+returns-clause-linear c = c.new-2.ensures ∙ c.in_ok-unilateral.ensures ∙ all_linear c.args.m.now
