@@ -117,7 +117,7 @@ structure_given m b is =
     let lists = listed-is [] b.at (length m.nodes) (touching_numbers b.members) is.nodes
     (λ node inside. at_node b node is.built (omega (arith, is.nodes))) in
     ap (λ (o : Members). and_then o (λ members. Ok (structure_with m members))) is.members
-    ∙ ap (λ (x : Built). Ok x) (sym (built_same b (structure_with m b.members) refl is.unilateral is.no_stations lists))
+    ∙ ap (λ (x : Built). Ok x) (sym (built_same b (structure_with m b.members) refl is.unilateral is.stations lists))
 
 pub structure_broken : (m : Lists) (number : ℕ) → model_members m ≡ Err number → structure_of m ≡ Err number
 structure_broken m number wide = ap (λ (o : Members). and_then o (λ members. Ok (structure_with m members))) wide

@@ -1,5 +1,5 @@
 -- The structure of a model from its members.
-use Rattle.std.proofs.Common.{◌≡◌, ℕ, ◌*◌, ◌^◌, ◌<◌, ◌≤◌, List, [], ◌∷◌, ◌++◌, length, length-append, get_or, All, sym, subst, arith, ℤ, pos, ◌*ℤ◌, ◌≤ℤ◌, ◌<ℤ◌, Option, Some, None, Ok, Err}
+use Rattle.std.proofs.Common.{◌≡◌, ℕ, ◌*◌, ◌<◌, ◌≤◌, List, [], ◌∷◌, ◌++◌, length, length-append, get_or, All, sym, subst, arith, ℤ, pos, Option, Some, None, Ok, Err}
 use Rattle.std.proofs.lemmas.Int.{ints}
 use Rattle.std.proofs.lemmas.List.Elements.{All-from_recursion, All-nil, All-append, All-head, All-tail}
 use Rattle.std.specs.List.{flat_map}
@@ -17,6 +17,7 @@ use Rattle.model_types.specs.declared.records.RestraintKind.{RestraintKind}
 use Rattle.model_types.specs.declared.records.RestraintKind.TheVariants.{Anchor, Linear, Twist}
 use Rattle.restraint_law.specs.Restraints.{stated_or, anchor_stiffness, direction_stiffness, restraint_member, kind_members, restraint_members}
 use Rattle.structure.specs.Restraints.{unilateral_of}
+use Rattle.structure.specs.Stations.{stations_of}
 use Rattle.structure.specs.Sound.{IsSound, AreMembers}
 use Rattle.structure.specs.Structure.{element_members, model_members, IsStructureOf}
 use Rattle.structure.specs.Touching.{ListsTouching}
@@ -96,8 +97,8 @@ nodes_in_range m members are = λ k d inside. ((are.sound k d inside).first_node
 
 -- ---- the structure
 
-pub IsStructureOf-from : (m : Lists) (b : Built) → IsModel m → AreMembers m b.members → length b.at ≡ length m.nodes → ListsTouching b.members (length b.members) b.at → b.unilateral ≡ unilateral_of m → b.stations ≡ [] → IsStructureOf m b
-IsStructureOf-from m b model are count lists unilateral no_stations =
+pub IsStructureOf-from : (m : Lists) (b : Built) → IsModel m → AreMembers m b.members → length b.at ≡ length m.nodes → ListsTouching b.members (length b.members) b.at → b.unilateral ≡ unilateral_of m → b.stations ≡ stations_of m → IsStructureOf m b
+IsStructureOf-from m b model are count lists unilateral stations =
     let most_nodes = model.few.nodes in
     record {
       members = are.value;
@@ -110,7 +111,7 @@ IsStructureOf-from m b model are count lists unilateral no_stations =
         touching = λ node k inside. lists.touching node k;
       };
       unilateral = unilateral;
-      no_stations = no_stations;
+      stations = stations;
     }
 
 pub stiff : (m : Lists) (members : List Member) → AreMembers m members → (k : ℕ) → k < length members → IsStiff (get_or members k no_member).kappa

@@ -6,3 +6,5 @@ pub mod PlacedLaw
 pub mod NumbersLaw
 pub mod CountLaw
 pub mod RestraintLaw
+pub mod LengthLemmas
+pub mod StationLemmas

@@ -1,11 +1,10 @@
 -- The intervals of a structure hold numbers: the exact ones of its straights and restraints.
-use Rattle.std.proofs.Common.{◌≡◌, ℕ, zero, suc, ◌+◌, ◌-◌, ◌*◌, ◌/◌, ◌%◌, ◌<◌, ◌≤◌, ◌^◌, ◌⊎◌, inl, inr, Bool, true, false, refl, sym, subst, ap, ◌∙◌, arith, List, [], ◌∷◌, ◌++◌, length, length-append, get_or, replicate, All, Option, Result, Ok, Err, ℤ, pos, ◌*ℤ◌, ◌+ℤ◌, ◌≤ℤ◌, if◌then◌else◌}
-use Rattle.std.specs.Prelude.{◌==◌, IfOk}
+use Rattle.std.proofs.Common.{◌≡◌, ℕ, zero, suc, ◌+◌, ◌-◌, ◌/◌, ◌%◌, ◌<◌, ◌≤◌, ◌^◌, inl, inr, true, false, refl, sym, subst, ap, ◌∙◌, arith, List, [], ◌∷◌, ◌++◌, length, length-append, get_or, All, Option, Ok, ℤ, pos, ◌*ℤ◌, ◌+ℤ◌, ◌≤ℤ◌, if◌then◌else◌}
+use Rattle.std.specs.Prelude.{◌==◌}
 use Rattle.std.specs.List.{flat_map}
 use Rattle.std.specs.Ordering.{int_eq}
-use Rattle.std.proofs.Math.ListN.{length-replicate}
 use Rattle.std.proofs.lemmas.Int.{ints}
-use Rattle.std.proofs.lemmas.List.{get_or_append_left, get_or-append-add, get_or-replicate}
+use Rattle.std.proofs.lemmas.List.{get_or-append-add}
 use Rattle.std.proofs.lemmas.List.Elements.{All-from_recursion, All-from_get_or, All-nil, All-append, All-head, All-tail}
 use Rattle.std.proofs.lemmas.Bool.{cases_lt}
 use Rattle.int_laws.proofs.Sums.{int_sums}
@@ -15,10 +14,7 @@ use Rattle.int_laws.specs.Root.{root_of, root_up_of}
 use Rattle.angle_table.specs.Pi.{pi_ends}
 use Rattle.flex_interval.specs.Ends.{Ends}
 use Rattle.flex_interval.specs.Fraction.{Fraction, Within}
-use Rattle.flex_interval.specs.Operations.{ends, is_small, point_of, shifted_of, sqrt_of}
-use Rattle.lists.specs.Results.{and_then}
-use Rattle.flex_interval.specs.declared.fault.IvFault.{IvFault}
-use Rattle.flex_interval.specs.declared.fault.IvFault.TheVariants as fault
+use Rattle.flex_interval.specs.Operations.{ends}
 use Rattle.member_set.specs.declared.members.Member.{Member}
 use Rattle.member_set.specs.declared.members.Built.{Built}
 use Rattle.member_set.specs.Members.{nothing, no_member, member_of, shape_at}
@@ -27,7 +23,7 @@ use Rattle.model_types.specs.declared.records.Restraint.{Restraint}
 use Rattle.model_types.specs.declared.records.RestraintKind.{RestraintKind}
 use Rattle.model_types.specs.declared.records.RestraintKind.TheVariants.{Anchor, Linear, Twist}
 use Rattle.member_pairs.specs.Axes.{Axis, x_axis, y_axis, z_axis, Motion, translation, rotation, End, from_end, to_end}
-use Rattle.member_pairs.specs.Lengths.{length_of, IsLengthWithin}
+use Rattle.member_pairs.specs.Lengths.{IsLengthWithin}
 use Rattle.member_pairs.specs.Pairs.{EnclosesMember, EnclosesShape}
 use Rattle.member_pairs.specs.Span.{Span, square_of}
 use Rattle.pipe_element.specs.ExactStraight.{Mode, axial, torsion, bending, shear}
@@ -41,6 +37,7 @@ use Rattle.structure.specs.Numbers.{HoldsNumbers, StructuresHoldNumbers}
 use Rattle.structure.specs.Restraints.{no_restraint, restraint_at}
 use Rattle.structure.specs.Structure.{element_members, model_members, IsStructureOf}
 use Rattle.structure.proofs.StiffLaw.{then_members-ok, whole-is}
+use Rattle.structure.proofs.LengthLemmas.{length_holds}
 use Rattle.structure.proofs.MemberLemmas.{shape-count}
 use Rattle.structure.proofs.PlacedLaw.{elements-count}
 use Rattle.structure.proofs.RestraintLaw.{placed_restraint}
@@ -70,18 +67,11 @@ root_order n = elim (int_eq (power (root_of n) 2) n) as (λ t. root_of n ≤ℤ 
   | false ↦ omega (arith, int_sums)
 ]
 
-abbrev tested : Bool → ℤ → Result ℤ IvFault
-tested t n = if t then Ok n else Err fault.Wide
-
-root_holds : (t : Bool) (n : ℤ) →
-    (l : Fraction) × IfOk (and_then (and_then (tested t n) (λ x. and_then (tested t n) (λ y. Result.Ok (ends x y)))) (λ e. Ok (ends (root_of e.lo) (root_up_of e.hi)))) (λ e. Within e l)
-root_holds true n = (record { num = root_of n; den = pos 1 }, lower_within (ends (root_of n) (root_up_of n)) (root_order n))
-root_holds false n = (record { num = n; den = pos 1 }, tt)
-
 -- the enclosure of a length holds a number
 length_exists : (d : Span) → (l : Fraction) × IsLengthWithin d l
-unfolding length_of sqrt_of shifted_of
-length_exists d = root_holds (is_small (square_of d *ℤ pos (2 ^ 72))) (square_of d *ℤ pos (2 ^ 72))
+length_exists d =
+    let n = square_of d *ℤ pos (2 ^ 72) in
+    (record { num = root_of n; den = pos 1 }, length_holds d _ (lower_within (ends (root_of n) (root_up_of n)) (root_order n)))
 
 -- ---- a member of an element
 

@@ -1,5 +1,5 @@
 -- The members of every structure of a model are stiff.
-use Rattle.std.proofs.Common.{◌≡◌, ℕ, zero, suc, ◌<◌, ◌^◌, Bool, true, false, ◌&&◌, if◌then◌else◌, refl, List, [], ◌++◌, length, All, sym, subst, arith, pos, Result, Ok, Err}
+use Rattle.std.proofs.Common.{◌≡◌, ℕ, zero, suc, ◌^◌, Bool, true, false, ◌&&◌, if◌then◌else◌, refl, List, [], ◌++◌, length, All, subst, arith, pos, Result, Ok, Err}
 use Rattle.std.specs.Prelude.{int_le, int_lt}
 use Rattle.std.specs.List.{flat_map}
 use Rattle.std.proofs.lemmas.Int.{ints}

@@ -1,5 +1,5 @@
 -- That the members of an element, and those of a structure, enclose the exact straights and restraints.
-use Rattle.std.specs.Prelude.{ℕ, ◌+◌, ◌*◌, ◌<◌, length, IfOk}
+use Rattle.std.specs.Prelude.{ℕ, ◌+◌, ◌<◌, length, IfOk}
 use Rattle.angle_table.specs.Pi.{pi_ends}
 use Rattle.flex_interval.specs.Fraction.{Fraction, Within}
 use Rattle.member_set.specs.declared.members.Built.{Built}

@@ -1,5 +1,6 @@
 ghost use Rattle.std.specs.Prelude.{◌≡◌, IfOk, Err, ℕ, [], All};
 ghost use Rattle.structure.specs.Enclosure.{EachEncloses, EnclosesElements, EnclosesRestraints, HoldsRestraint};
+ghost use Rattle.structure.specs.Stations.{HoldTangents};
 ghost use Rattle.structure.specs.Sound.{AreMembers};
 ghost use Rattle.structure.specs.Structure.{IsStructureOf, model_members};
 ghost use Rattle.member_set.specs.Members.{AreStiff};
@@ -7,18 +8,20 @@ ghost use Rattle.member_set.specs.Members.{AreStiff};
 use crate::elements::all_element_members;
 use crate::fault::BuildFault;
 use crate::restraints::{push_restraints, unilateral};
+use crate::stations::stations;
 use crate::touching::touching;
 use member_set::{Built, Member, Sequence};
 use model_types::{ElementId, Model};
 use std::alloc::Global;
 
 /// The structure of a model: the members of its elements in order, then of its restraints in order, the numbers of the members
-/// with states, and for each node the numbers of the members that touch it. Stations are left out.
+/// with states, the stations, and for each node the numbers of the members that touch it.
 pub fn build(alloc: Global, m: &Model) -> Result<Built, BuildFault>
     ensures structure { IfOk result (IsStructureOf m.now) }
     ensures stiff { IfOk result AreStiff }
     ensures encloses { IfOk result (EnclosesElements m.now) }
     ensures holds { IfOk result (EnclosesRestraints m.now) }
+    ensures tangents { IfOk result (HoldTangents m.now) }
 
     // No kind of restraint has a member with states yet.
     ensures linear { IfOk result (λ b. b.unilateral ≡ []) }
@@ -26,11 +29,12 @@ pub fn build(alloc: Global, m: &Model) -> Result<Built, BuildFault>
 {
     let members = model_members(alloc, m)?;
     let unilateral = unilateral(alloc, m)?;
+    let stations = stations(alloc, m)?;
     let at = touching(alloc, &members, m.nodes().len())?;
     Ok(Built {
         members: Sequence::new(members),
         unilateral: Sequence::new(unilateral),
-        stations: Sequence::new(Vec::new(alloc)),
+        stations: Sequence::new(stations),
         at: Sequence::new(at),
     })
 }

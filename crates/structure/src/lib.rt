@@ -6,6 +6,7 @@ mod elements;
 mod fault;
 mod laws;
 mod restraints;
+mod stations;
 mod touching;
 
 pub use building::build;
