@@ -1,7 +1,7 @@
 //! A pipe of three straights between two anchors: its members by hand, and the first of two straights that are too stiff.
-use crate::makers::{check_anchors, model};
+use crate::makers::model;
 use flex_interval::Iv;
-use member_set::{Built, Member};
+use member_set::{Built, Member, Station};
 use model_types::ElementId;
 use std::alloc::Global;
 use std::process::Abort;
@@ -17,7 +17,6 @@ anchor B d 5 -
 
 fn built(rt: &impl Abort, alloc: Global, nodes: &str) -> Result<Built, BuildFault> {
     let m = model(rt, alloc, &[nodes, PIPE]);
-    check_anchors(rt, &m);
     build(alloc, &m)
 }
 
@@ -55,13 +54,30 @@ fn three_straights(rt: HostRuntime) {
     let nodes = "node a 0 0 0\nnode b 1000000 0 0\nnode c 2000000 0 0\nnode d 3000000 0 0\n";
     let built = built(&rt, rt.alloc(), nodes).expect(&rt, "a structure");
     counts(&rt, &built);
+    stations(&rt, built.stations.as_slice());
     touches(&rt, &built);
     anchors(&rt, built.members.as_slice());
 }
 
 fn counts(rt: &impl Abort, built: &Built) {
     assert!(rt; built.members.as_slice().len() == 36 && built.at.as_slice().len() == 4);
-    assert!(rt; built.unilateral.as_slice().is_empty() && built.stations.as_slice().is_empty());
+    assert!(rt; built.unilateral.as_slice().is_empty());
+}
+
+// For each element the end `from`, then `to`, with the unit vector along x; the third runs the other way.
+fn stations(rt: &impl Abort, stations: &[Station]) {
+    assert!(rt; stations.len() == 6);
+    for place in 0..6 {
+        let station = &stations[place];
+        let number = place as u32 / 2;
+        assert!(rt; station.element == number && station.end == (place % 2 == 1));
+        assert!(rt; station.first == 8 * number && station.count == 8);
+        assert!(rt; station.normal.is_none());
+        let along = if number == 2 { -1 } else { 1 };
+        is_point(rt, &station.tangent[0], along * (1 << 56));
+        is_point(rt, &station.tangent[1], 0);
+        is_point(rt, &station.tangent[2], 0);
+    }
 }
 
 fn touches(rt: &impl Abort, built: &Built) {
