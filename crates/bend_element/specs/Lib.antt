@@ -6,3 +6,4 @@ pub mod Bend
 pub mod Arc
 pub mod EndLoads
 pub mod Normal
+pub mod Between

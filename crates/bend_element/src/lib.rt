@@ -2,6 +2,7 @@
 #![tactic(auto)]
 
 mod arc;
+mod between;
 mod centre;
 mod flexibility;
 mod frame;
@@ -12,6 +13,7 @@ mod normal;
 mod stiffness;
 
 pub use arc::Arc;
+pub use between::{Curve, bend};
 pub use laws::{members_are_arc, patterns_work_apart};
 pub use members::bend_members;
 pub use normal::{Normal, plane_normal, unit_normal};
