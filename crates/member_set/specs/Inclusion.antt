@@ -8,7 +8,7 @@ use Rattle.member_set.specs.declared.members.Member.{Member}
 use Rattle.member_set.specs.declared.members.Built.{Built}
 use Rattle.member_set.specs.Members.{IsBuilt, System, shape_at, row_count, member_of, members_at, nothing}
 use Rattle.member_set.specs.Realisation.{ExactMember, Realisation, IsRealisation, exact_reach, force_in, displaced, fraction, reach_fraction, force_fraction, exact_residual}
-use Rattle.member_set.specs.Interval.{Outcome, reach_of, forces_of, residual_with, residual_of}
+use Rattle.member_set.specs.Interval.{Outcome, reach_of, forces_of, residual_with}
 
 -- the interval of a reach holds the reach of all displacements within theirs
 abbrev pub ReachHolds : Type 0

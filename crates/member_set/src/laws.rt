@@ -1,5 +1,6 @@
 ghost use Rattle.member_set.specs.Inclusion.{ReachHolds, ForcesHold, ResidualsHold, NumbersAreInRange, NodesSuffice};
 ghost use Rattle.member_set.specs.Interval.{FaultsStay};
+ghost use Rattle.member_set.specs.States.{StaysBuilt, HasStiffnessUnder, NoStatesNoChange, LinearMembersTakePart};
 ghost use Rattle.member_set.specs.Realisation.{LawsKeepStretch, LinearIsEveryMember, LowerEndsAreRealisation, RestIsEquilibrium};
 
 /// What shows that the definition of an equilibrium is met: intervals that hold numbers have a realisation, and a structure
@@ -27,6 +28,14 @@ pub fn intervals_hold()
 {
     flex_interval::operations_hold();
 }
+
+/// What the structure under given states is: built like the structure, with the stiffness of the members that take part.
+pub fn states_select_members()
+    ensures built { StaysBuilt }
+    ensures stiffness { HasStiffnessUnder }
+    ensures no_states { NoStatesNoChange }
+    ensures linear { LinearMembersTakePart }
+{}
 
 /// A sum in turn that has met a fault keeps it.
 pub fn faults_stay()

@@ -1,5 +1,5 @@
 -- The structure of a model from its members.
-use Rattle.std.proofs.Common.{◌≡◌, ℕ, ◌*◌, ◌^◌, ◌<◌, ◌≤◌, List, [], ◌∷◌, ◌++◌, length, length-append, get_or, All, sym, subst, arith, ℤ, pos, ◌*ℤ◌, ◌≤ℤ◌, ◌<ℤ◌, Option, Some, None, Ok, Err}
+use Rattle.std.proofs.Common.{◌≡◌, ℕ, ◌*◌, ◌^◌, ◌<◌, ◌≤◌, List, [], ◌∷◌, ◌++◌, length, length-append, get_or, All, sym, ap, subst, arith, ℤ, pos, ◌*ℤ◌, ◌≤ℤ◌, ◌<ℤ◌, Option, Some, None, Ok, Err}
 use Rattle.std.proofs.lemmas.Int.{ints}
 use Rattle.std.proofs.lemmas.List.Elements.{All-from_recursion, All-nil, All-append, All-head, All-tail}
 use Rattle.std.specs.List.{flat_map}
@@ -90,10 +90,14 @@ IsStructureOf-from m b model are count lists linear no_stations =
       nodes = count;
       built = record {
         numbered = omega arith;
+        members_numbered = are.few;
         first_node = λ k inside. rw count ((are.sound k no_member inside).first_node);
         second_node = λ k inside. rw count ((are.sound k no_member inside).second_node);
         rising = lists.rising;
         touching = λ node k inside. lists.touching node k;
+        states_numbered = omega (arith, ap (λ (xs : List ℕ). length xs) linear);
+        states_rising = λ i j d before inside. absurd (omega (arith, inside, ap (λ (xs : List ℕ). length xs) linear));
+        states_inside = λ number inside. absurd (omega (arith, inside, ap (λ (xs : List ℕ). length xs) linear));
       };
       linear = linear;
       no_stations = no_stations;

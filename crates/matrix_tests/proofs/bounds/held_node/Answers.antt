@@ -1,4 +1,4 @@
-use Rattle.std.proofs.Common.{◌≡◌, ℕ, zero, suc, ◌<◌, inl, ◌∙◌, sym, ap, subst, arith, refl, List, [], ◌∷◌, length, slice_index, get_or}
+use Rattle.std.proofs.Common.{◌≡◌, ℕ, zero, suc, ◌^◌, ◌<◌, ◌≤◌, inl, ◌∙◌, sym, ap, subst, arith, refl, List, [], ◌∷◌, length, slice_index, get_or}
 use Rattle.std.proofs.lemmas.Result.{IfOk-weaker}
 use Rattle.std.specs.Prelude.{All, AllPairs, Contains, ◌↔◌}
 use Rattle.std.proofs.lemmas.Grind.{get_or_default_zero}
@@ -26,18 +26,22 @@ at_touching members kappa numbers as_many count at_node zero k inside = (
 )
 at_touching members kappa numbers as_many count at_node (suc node) k inside = absurd (omega arith)
 
-one_node : (b : Built) (kappa : Ends) (numbers : List ℕ) → b.at ≡ numbers ∷ [] → length numbers ≡ length b.members →
+one_node : (b : Built) (kappa : Ends) (numbers : List ℕ) → b.at ≡ numbers ∷ [] → b.unilateral ≡ [] → length b.members ≤ 2 ^ 32 → length numbers ≡ length b.members →
     ((k : ℕ) → k < length b.members → slice_index numbers k ≡ k) → All (λ m. (m.n1 ≡ 0) × (m.n2 ≡ 0) × (m.kappa ≡ kappa)) b.members → IsBuilt b
-one_node b kappa numbers at_is as_many count at_node =
+one_node b kappa numbers at_is free few as_many count at_node =
     let one = ap (λ (xs : List (List ℕ)). length xs) at_is in
     record {
       numbered = omega (arith, one);
+      members_numbered = few;
       first_node = λ k inside. omega (arith, one, (at_node k no_member inside).0);
       second_node = λ k inside. omega (arith, one, (at_node k no_member inside).1);
       rising = λ node. subst (λ (xs : List (List ℕ)). AllPairs (λ x y. x < y) (get_or xs node [])) (sym at_is) (at_rising numbers (length b.members) as_many count node);
       touching = λ node k inside.
           subst (λ (xs : List (List ℕ)). Contains (get_or xs node []) k ↔ ((k < length b.members) × Touches (member_of b k) node)) (sym at_is)
           (at_touching b.members kappa numbers as_many count at_node node k (omega (arith, one)));
+      states_numbered = omega (arith, ap (λ (xs : List ℕ). length xs) free);
+      states_rising = λ i j d before inside. absurd (omega (arith, inside, ap (λ (xs : List ℕ). length xs) free));
+      states_inside = λ number inside. absurd (omega (arith, inside, ap (λ (xs : List ℕ). length xs) free));
     }
 
 pub returns-clause-built : goal.returns-clause-built
@@ -46,7 +50,7 @@ returns-clause-built c =
     let P : Built → Type 0 = λ b. IsBuilt b in
     IfOk-weaker c.one_node.result _ IsBuilt
     (λ b is.
-    subst P (sym is) (one_node _ c.args.kappa c.in_ok-counted.field-0.items refl
+    subst P (sym is) (one_node _ c.args.kappa c.in_ok-counted.field-0.items refl refl (omega (arith, six))
     (omega (arith, six, c.in_ok-counted.ensures.0)) (λ k below. omega (arith, c.in_ok-counted.ensures.1 k (omega (arith, six)))) c.in_ok-anchors.ensures.anchors))
     c.one_node.ensures
 

@@ -1,5 +1,4 @@
-use Rattle.std.proofs.Common.{◌/◌, ◌<◌, arith}
-use Rattle.member_set.specs.Members.{built_nodes}
+use Rattle.std.proofs.Common.{◌/◌, arith}
 use Rattle.member_set.proofs.InclusionLaws.{reach_holds, forces_hold, residuals_hold}
 use Rattle.member_set.proofs.Touching.{numbers_in_range, resistance_by_node}
 use Rattle.member_set.proofs.laws.intervals_hold.Goals as goal
