@@ -13,9 +13,10 @@ use Rattle.flex_interval.specs.declared.fault.IvFault.TheVariants.{Wide}
 use Rattle.member_set.specs.declared.members.Member.{Member}
 use Rattle.member_set.specs.declared.members.Law.{Law}
 use Rattle.member_set.specs.Members.{nothing, shape_at, start_of, member_of, members_at, law_of, load_of}
-use Rattle.member_set.specs.Realisation.{ExactMember, IsMemberWithin, IsOffsetWithin, exact_reach, exact_force, stretch, force_in, exact_load, displaced, fraction, reach_fraction, force_fraction, pull_fraction}
+use Rattle.member_set.specs.Realisation.{ExactMember, IsMemberWithin, IsOffsetWithin, exact_reach, exact_force, stretch, force_in, exact_load, displaced, fraction, reach_fraction, force_fraction, pull_fraction, reach_in}
 use Rattle.member_set.specs.Interval.{place_count, touched_row, points, reach_term, reach_of, counted_of, law_force_of, limited_force, member_force_of, pull_of, residual_term, residual_with}
-use Rattle.member_set.specs.Inclusion.{ReachHolds, ForcesHold, ResidualsHold}
+use Rattle.member_set.specs.States.{state_member}
+use Rattle.member_set.specs.Inclusion.{ReachHolds, PastsHold, ForcesHold, ResidualsHold}
 use Rattle.member_set.proofs.Fractions.{square_unit, product_within, reach_sum_within, past_within, counted_within, force_within, pull_within, pull_less_within, pull_taken, load_within}
 use Rattle.member_set.proofs.Rows.{touched_row-inside, shape_at-touched_row, reach_by_places, nothing_is_zero}
 use Rattle.member_set.proofs.Touching.{ok_of, numbers_in_range, resistance_by_node}
@@ -46,6 +47,15 @@ reach_holds sums products m displacement rows e q x u first second positive shap
     e is in
     let none : (row : ℕ) → shape_at m row ≡ nothing → x.shape row ≡ pos 0 = λ row off. nothing_is_zero (x.shape row) q (rw off at (shape row)) in
     rw (← reach_by_places m rows x.shape u first second none) turned
+
+-- what is past a state's gap
+pub pasts_hold : DifferenceHolds → PastsHold
+pasts_hold differences s r u number x e built real inside x_within is =
+    let k = state_member s.structure number in
+    let k_inside : state_member s.structure number < r.stiffness.members = rw real.stiffness.all_members (built.states_inside number inside) in
+    past_within r.stiffness.denominator (reach_in r.stiffness u k) (r.numbers.offset k) (law_of s.laws k) (r.stiffness.member k).law x e real.stiffness.positive
+    (real.stiffness.member_within k k_inside).law_within (real.numbers.offset_within k k_inside) x_within
+    (λ a b in_a in_b. differences x (start_of (law_of s.laws k)) e a b is in_a in_b)
 
 -- a whole number is within the interval of itself
 points_within : (u : List ℤ) (q : ℤ) (row : ℕ) → pos 0 <ℤ q → Within (points u row) (fraction (displaced q u row) q)

@@ -1,4 +1,4 @@
-ghost use Rattle.member_set.specs.Inclusion.{ReachHolds, ForcesHold, ResidualsHold, NumbersAreInRange, NodesSuffice};
+ghost use Rattle.member_set.specs.Inclusion.{ReachHolds, PastsHold, ForcesHold, ResidualsHold, NumbersAreInRange, NodesSuffice};
 ghost use Rattle.member_set.specs.Interval.{FaultsStay};
 ghost use Rattle.member_set.specs.States.{StaysBuilt, HasStiffnessUnder, NoStatesNoChange, LinearMembersTakePart};
 ghost use Rattle.member_set.specs.Realisation.{LawsKeepStretch, LinearIsEveryMember, LowerEndsAreRealisation, RestIsEquilibrium};
@@ -17,10 +17,11 @@ pub fn laws_keep_stretch()
     ensures every_member { LinearIsEveryMember }
 {}
 
-/// What the intervals of reach, force and residual hold, by their definitions: for displacements and bounds that no call has
+/// What the intervals of reach, state, force and residual hold, by their definitions: for displacements and bounds that no call has
 /// met. The members at a row's node are all that have a part in the row.
 pub fn intervals_hold()
     ensures reaches { ReachHolds }
+    ensures pasts { PastsHold }
     ensures forces { ForcesHold }
     ensures residuals { ResidualsHold }
     ensures in_range { NumbersAreInRange }
