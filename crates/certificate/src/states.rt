@@ -23,12 +23,7 @@ fn state_past(b: &Built, laws: &[Law], bounds: &[Iv], number: u32) -> Result<Iv,
 }
 
 /// The same for each state number. `Wide` where one has no interval.
-pub fn put_pasts(
-    b: &Built,
-    laws: &[Law],
-    bounds: &[Iv],
-    pasts: &mut [Iv],
-) -> Result<(), Wide>
+pub fn put_pasts(b: &Built, laws: &[Law], bounds: &[Iv], pasts: &mut [Iv]) -> Result<(), Wide>
     requires built { IsBuilt b.now }
     requires one_law_each { length laws.now ≡ length b.now.members }
     requires one_bound_each { length bounds.now ≡ row_count b.now }
@@ -68,10 +63,9 @@ pub fn judge_states(pasts: &[Iv], closed: &mut [bool]) -> Result<(), EncloseFaul
     for number in 0..pasts.len() {
         match judge(pasts[number]) {
             Some(state) => closed[number] = state,
-            None =>
-                return Err(EncloseFault::State {
-                    number: number as u32,
-                }),
+            None => return Err(EncloseFault::State {
+                number: number as u32,
+            }),
         }
     }
     Ok(())

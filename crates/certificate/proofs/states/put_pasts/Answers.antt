@@ -13,8 +13,11 @@ answered e = Ok e
 pub returns-in_err-pasts-clause-none : goal.returns-in_err-pasts-clause-none
 returns-in_err-pasts-clause-none c =
     let p = err_from_is_err_and c.from_residual.result c.from_residual.ensures.1 in
-    rw p.1 (λ loads. (c.loop-number.number, omega (arith, c.loop-number.invariant.one_each),
-    subst (λ (o : Outcome). IsErr o) (c.in_err-pasts.ensures loads) refl))
+    rw p.1 (λ loads. (
+      c.loop-number.number,
+      omega (arith, c.loop-number.invariant.one_each),
+      subst (λ (o : Outcome). IsErr o) (c.in_err-pasts.ensures loads) refl,
+    ))
 
 pub loop-number-preserved : goal.loop-number-preserved
 loop-number-preserved c =
