@@ -1,8 +1,7 @@
 -- The states and the held forces, member by member, and what they hold of every equilibrium.
-use Rattle.std.proofs.Common.{◌≡◌, ℕ, ◌+◌, ◌*◌, ◌^◌, ◌<◌, ◌≤◌, refl, sym, ◌∙◌, ap, subst, arith, Bool, true, false, cond, List, length, slice_index, slice_index_or, get_or, Option, Some, None, Ok, Err, ℤ, pos, ◌*ℤ◌, ◌≤ℤ◌, ◌<ℤ◌}
+use Rattle.std.proofs.Common.{◌≡◌, ℕ, ◌<◌, refl, sym, ◌∙◌, ap, subst, arith, Bool, true, false, List, length, slice_index, slice_index_or, Some, None, Ok, Err, ℤ, pos, ◌*ℤ◌, ◌≤ℤ◌}
 use Rattle.std.specs.Prelude.{Contains, nat_lt, int_le, if◌then◌else◌}
 use Rattle.std.specs.Int.{int_max}
-use Rattle.std.proofs.lemmas.Bool.{false≢true}
 use Rattle.std.proofs.lemmas.Bool.Decides.{nat_tests}
 use Rattle.std.proofs.lemmas.Grind.{get_or_default_zero}
 use Rattle.std.proofs.lemmas.Int.{ints, clamps, by_lt_z}
@@ -20,15 +19,14 @@ use Rattle.flex_interval.specs.Operations.{max_of}
 use Rattle.member_set.specs.declared.members.Built.{Built}
 use Rattle.member_set.specs.declared.members.Law.{Law}
 use Rattle.member_set.specs.declared.members.Law.TheVariants.{Linear, Oneway}
-use Rattle.member_set.specs.Members.{System, IsBuilt, AreStiff, HasStates, IsOneway, nothing, member_of, law_of, force_of, row_count}
-use Rattle.member_set.specs.Realisation.{Realisation, IsRealisation, IsInState, ExactLaw, linear, oneway, IsLawWithin, past_start, past_in, stretch, reach_in, force_in, fraction, reach_fraction, force_fraction}
+use Rattle.member_set.specs.Members.{System, IsBuilt, AreStiff, HasStates, IsOneway, nothing, member_of, law_of, force_of}
+use Rattle.member_set.specs.Realisation.{Realisation, IsRealisation, IsInState, ExactLaw, linear, oneway, IsLawWithin, past_start, past_in, stretch, reach_in, force_in, fraction, force_fraction}
 use Rattle.member_set.specs.Interval.{Outcome, reach_of, intervals}
 use Rattle.member_set.specs.Inclusion.{ReachHolds, PastsHold}
 use Rattle.member_set.specs.States.{state_member, state_reach_of}
-use Rattle.certificate.specs.declared.bounds.Enclosure.{Enclosure}
 use Rattle.certificate.specs.Bounds.{EnclosesEquilibrium}
 use Rattle.certificate.specs.Widening.{only, enclosure}
-use Rattle.certificate.specs.States.{state_past, judged, IsBetween, IsSettled, AreSettled, held, held_force, AreHeld, HoldsStates}
+use Rattle.certificate.specs.States.{state_past, judged, IsBetween, AreSettled, held, held_force, AreHeld, HoldsStates}
 
 -- ---- the force of a member, by its state number
 

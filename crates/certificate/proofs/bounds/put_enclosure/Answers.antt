@@ -1,4 +1,4 @@
-use Rattle.std.proofs.Common.{◌<◌, inl, inr, refl, sym, subst, ℕ, length, to_z-of_z}
+use Rattle.std.proofs.Common.{inl, inr, refl, sym, subst, to_z-of_z}
 use Rattle.std.specs.Prelude.{IsOk}
 use Rattle.std.proofs.lemmas.Result.{err_from_is_err_and}
 use Rattle.member_set.specs.Members.{system}

@@ -1,4 +1,4 @@
-use Rattle.std.proofs.Common.{◌≡◌, ℕ, ◌<◌, ◌⊎◌, inl, inr, length, sym, ap, arith, subst, ◌∙◌, slice_set, get_or-set_same, get_or-set_other, Ok, Err, IsErr, refl, List}
+use Rattle.std.proofs.Common.{◌≡◌, ℕ, ◌<◌, ◌⊎◌, inl, inr, length, sym, ap, arith, subst, ◌∙◌, slice_set, get_or-set_same, get_or-set_other, Ok, IsErr, refl}
 use Rattle.std.proofs.Math.ListN.{length-set}
 use Rattle.std.proofs.lemmas.Result.{err_from_is_err_and}
 use Rattle.flex_interval.specs.Ends.{Ends}
