@@ -40,6 +40,7 @@ use Rattle.certificate.specs.declared.bounds.Enclosure.{Enclosure}
 use Rattle.certificate.specs.declared.check.Verdict.TheVariants.{Yes, No}
 use Rattle.certificate.specs.declared.fault.EncloseFault.{EncloseFault}
 use Rattle.certificate.specs.declared.fault.EncloseFault.TheVariants as enclosures
+use Rattle.certificate.specs.States.{TellsFault}
 use Rattle.case_run.specs.declared.fault.CaseFault.{CaseFault}
 use Rattle.case_run.specs.declared.fault.CaseFault.TheVariants.{Because, NoMemory}
 use Rattle.case_run.specs.Causes.{Plan, resting_laws}
@@ -89,10 +90,15 @@ pub tells_turns : (p : Problem) (fault : SolveFault) → IsOrdered p → (fault 
 tells_turns p solutions.Wide ordered wide = ap (named (λ (w : Wide). turns_reason)) (turns_broken p ordered (wide refl))
 tells_turns p solutions.NoMemory ordered wide = tt
 
-pub tells_bounds : (s : System) (u : List ℤ) (lambda : ℤ) (fault : EncloseFault) → (fault ≡ enclosures.Wide → HasNoBounds s u lambda) →
+pub tells_bounds : (s : System) (u : List ℤ) (lambda : ℤ) (fault : EncloseFault) → s.structure.unilateral ≡ [] → TellsFault s u lambda fault →
     Tells (named (λ _. bounds_reason) (bounds_around s u lambda)) (enclose_fault fault)
-tells_bounds s u lambda enclosures.Wide none = ap (named (λ (w : Wide). bounds_reason)) (bounds_broken s u lambda (none refl))
-tells_bounds s u lambda enclosures.NoMemory none = tt
+tells_bounds s u lambda enclosures.Wide free tells =
+    elim tells [
+      | inl none ↦ ap (named (λ (w : Wide). bounds_reason)) (bounds_broken s u lambda none)
+      | inr reach ↦ absurd (omega (arith, reach.inside, ap (λ (xs : List ℕ). length xs) free))
+    ]
+tells_bounds s u lambda (enclosures.State number) free tells = absurd (omega (arith, tells.first.in_range, ap (λ (xs : List ℕ). length xs) free))
+tells_bounds s u lambda enclosures.NoMemory free tells = tt
 
 -- ---- the margin
 

@@ -1,13 +1,15 @@
 -- What the relations of the bounds say of them as a function of the system.
-use Rattle.std.specs.Prelude.{int_le, ◌||◌, is_err, IsOk}
-use Rattle.std.proofs.Common.{◌≡◌, ◌^◌, refl, sym, ◌∙◌, ap, Bool, true, false, cond, Result, Ok, Err, List, length, ℤ, pos}
+use Rattle.std.specs.Prelude.{int_le, nat_lt, ◌||◌, is_err, IsOk, slice_index_or, if◌then◌else◌}
+use Rattle.std.proofs.Common.{◌≡◌, ◌^◌, refl, sym, ◌∙◌, ap, Bool, true, false, cond, Result, Ok, Err, List, [], ◌∷◌, length, ℕ, arith, ℤ, pos}
 use Rattle.std.proofs.lemmas.Bool.{or_from, or_left, or_right}
 use Rattle.flex_interval.specs.Ends.{Ends}
 use Rattle.flex_interval.specs.declared.fault.Wide.{Wide}
 use Rattle.member_set.specs.Interval.{Outcome, forces_of, residual_of}
-use Rattle.member_set.specs.Members.{System, nothing, row_count}
+use Rattle.member_set.specs.Members.{System, nothing, row_count, force_of}
 use Rattle.certificate.specs.declared.bounds.Enclosure.{Enclosure}
 use Rattle.certificate.specs.Bounds.{AreBounds, HasNoBounds, no_residual, long, far, unsteady, displacement_radius, force_radius, sum_of_squares, bounds_fail, enclosure_of, bounds_around}
+use Rattle.certificate.specs.States.{AreBoundsInStates, held, held_force}
+use Rattle.lists.specs.Order.{place_of}
 use Rattle.lists.specs.Search.{any_below}
 use Rattle.case_run.proofs.Searching.{int_le-yes, int_le-no, any_none, any_at, listed-is}
 
@@ -34,6 +36,26 @@ is_enclosure s u lambda e are =
     (listed-is nothing e.u (row_count s.structure) _ are.one_displacement_each are.displacement)
     (listed-is nothing e.force (length s.structure.members) _ are.one_force_each are.force)
     are.no_states
+
+-- a list without entries
+none_in : (xs : List Bool) → length xs ≡ 0 → xs ≡ []
+none_in [] is = refl
+none_in (x ∷ xs) is = absurd (omega (arith, is))
+
+-- where no member has a state, the bounds in states are the bounds alone
+pub without_states : (s : System) (u : List ℤ) (lambda : ℤ) (e : Enclosure) → s.structure.unilateral ≡ [] → AreBoundsInStates s u lambda e → AreBounds s u lambda e
+without_states s u lambda e free given =
+    let are = given.bounds in
+    let free_held : (k : ℕ) (f : Ends) → held_force s.structure e.closed k f ≡ f =
+    λ k f. ap (λ (xs : List ℕ). if nat_lt (place_of k xs) (length xs) then held (slice_index_or e.closed (place_of k xs) false) f else f) free in
+    record {
+      exist = are.exist;
+      one_displacement_each = are.one_displacement_each;
+      displacement = are.displacement;
+      one_force_each = given.forces.one_each;
+      force = λ k inside. given.forces.force k inside ∙ free_held k (force_of given.outer k) ∙ are.force k inside;
+      no_states = none_in e.closed (given.states.one_each ∙ ap (λ (xs : List ℕ). length xs) free);
+    }
 
 pub bounds_given : (s : System) (u : List ℤ) (lambda : ℤ) (e : Enclosure) → AreBounds s u lambda e → bounds_around s u lambda ≡ Ok e
 bounds_given s u lambda e are =

@@ -191,7 +191,7 @@ base_definite passed matrices_hold every_member m p shared s some same is struct
     let near = matrices_hold b (resting_laws b) s is.middles is.radii structure.built real is.matrices in (
       margin.positive,
       definite_stiffness b (resting_laws b) s margin.test shared.lambda (omega (arith, margin.size, same, structure.nodes)) margin.definite real
-          (λ i j i_in j_in. rw (every_member s (λ k _. all_linear (s.member k).law) i j, margin.middles, margin.radii) (near i j i_in j_in)),
+          (λ i j i_in j_in. rw (every_member s (all_linear b s real) i j, margin.middles, margin.radii) (near i j i_in j_in)),
     )
 
 certified_holds : PassedTestIsProof → MatricesHold → LinearIsEveryMember → BoundsHold → StructuresAreStiff →

@@ -1,5 +1,5 @@
 -- The fault of a case that the fault of a step becomes: the cause that it names, or that memory ran out.
-use Rattle.std.specs.Prelude.{Option, Some, None}
+use Rattle.std.specs.Prelude.{Option, Some, None, false}
 use Rattle.model_types.specs.declared.answers.Cause.TheVariants as causes
 use Rattle.structure.specs.declared.fault.BuildFault.{BuildFault}
 use Rattle.structure.specs.declared.fault.BuildFault.TheVariants as builds
@@ -44,9 +44,10 @@ abbrev pub solve_fault : SolveFault → CaseFault
 solve_fault solutions.Wide = Because (causes.WidthSolve 1)
 solve_fault solutions.NoMemory = NoMemory
 
--- a number of the bounds leaves its limit
+-- a number of the bounds leaves its limit, or a state lies on neither side; no model has states yet, so none of them comes
 abbrev pub enclose_fault : EncloseFault → CaseFault
 enclose_fault enclosures.Wide = Because causes.WidthResidual
+enclose_fault (enclosures.State number) = Because (causes.State (record { 0 = number }) false)
 enclose_fault enclosures.NoMemory = NoMemory
 
 -- the reason that a fault of a case tells; none where memory ran out

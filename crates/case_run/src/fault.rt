@@ -5,7 +5,7 @@ use assembly::AssembleFault;
 use certificate::EncloseFault;
 use factor::ScalarFault;
 use load_vectors::LoadFault;
-use model_types::{Cause, NodeId};
+use model_types::{Cause, NodeId, RestraintId};
 use solve::SolveFault;
 use std::alloc::AllocError;
 use structure::BuildFault;
@@ -101,6 +101,10 @@ impl From<EncloseFault> for CaseFault {
     fn from(error: EncloseFault) -> CaseFault {
         match error {
             EncloseFault::Wide => CaseFault::Because(Cause::WidthResidual),
+            EncloseFault::State { number } => CaseFault::Because(Cause::State {
+                restraint: RestraintId(number),
+                minus: false,
+            }),
             EncloseFault::NoMemory => CaseFault::NoMemory,
         }
     }

@@ -21,7 +21,7 @@ use Rattle.lists.proofs.PatternLemmas.{sum-listed, sum-unlisted}
 use Rattle.certificate.specs.declared.row_lists.RowEntry.{RowEntry}
 use Rattle.flex_num.specs.declared.guarded.GuardedSum.{GuardedSum}
 use Rattle.int_laws.specs.Matrices.{absolute, scalar_matrix}
-use Rattle.bound_laws.specs.Definiteness.{CholeskyTest, residual, row_margin, RowFails, IsDefinitenessMargin, PassedTestIsProof}
+use Rattle.bound_laws.specs.Definiteness.{CholeskyTest, residual, row_margin, RowFails, PassedTestIsProof}
 use Rattle.lists.specs.Order.{places_of}
 use Rattle.certificate.specs.RowSums.{column_size}
 use Rattle.flex_num.specs.Guarded.{zero_sum}

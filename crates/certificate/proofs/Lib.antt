@@ -9,3 +9,4 @@ pub mod RowLemmas
 pub mod CheckLemmas
 pub mod LimitLemmas
 pub mod BoundsLaw
+pub mod StateLemmas

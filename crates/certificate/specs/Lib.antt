@@ -5,3 +5,4 @@ pub mod RowLists
 pub mod RowResidual
 pub mod Space
 pub mod Checker
+pub mod States

@@ -1,5 +1,5 @@
 -- The entries of a factor row by row, where the factor is kept by columns.
-use Rattle.std.specs.Prelude.{ℕ, ◌*◌, ◌^◌, ◌<◌, ◌≡◌, ℤ, pos, ◌+ℤ◌, ◌*ℤ◌, ◌≤ℤ◌, List, [], length, slice_index_or}
+use Rattle.std.specs.Prelude.{ℕ, ◌*◌, ◌^◌, ◌<◌, ◌≡◌, ℤ, pos, ◌+ℤ◌, ◌*ℤ◌, ◌≤ℤ◌, List, length, slice_index_or}
 use Rattle.int_laws.specs.Sums.{sum_below}
 use Rattle.lists.specs.Lists.{list_of}
 use Rattle.certificate.specs.declared.row_lists.RowEntry.{RowEntry}

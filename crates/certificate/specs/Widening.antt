@@ -1,14 +1,18 @@
 -- The steps by which bounds are put around displacements and forces.
-use Rattle.std.specs.Prelude.{ℕ, ◌^◌, ◌<◌, ◌≤◌, ◌≡◌, List, [], length, slice_index_or, ℤ, pos, ◌≤ℤ◌, ◌<ℤ◌, unsigned_abs}
+use Rattle.std.specs.Prelude.{ℕ, ◌^◌, ◌<◌, ◌≤◌, ◌≡◌, Bool, List, [], length, slice_index_or, ℤ, pos, ◌≤ℤ◌, ◌<ℤ◌, unsigned_abs}
 use Rattle.flex_interval.specs.Ends.{Ends}
 use Rattle.member_set.specs.declared.members.Built.{Built}
 use Rattle.member_set.specs.Members.{nothing, member_of, force_of}
 use Rattle.certificate.specs.declared.bounds.Enclosure.{Enclosure}
 use Rattle.bound_laws.specs.Nearness.{widened, alone, force_radius_of}
 
--- the answer with these intervals, without states
+-- the answer with these intervals and states
+abbrev pub enclosure : List Ends → List Ends → List Bool → Enclosure
+enclosure u force closed = record { u = u; force = force; closed = closed }
+
+-- the same without states
 abbrev pub only : List Ends → List Ends → Enclosure
-only u force = record { u = u; force = force; closed = [] }
+only u force = enclosure u force []
 
 -- a force is at most 2^66 in size
 pub record IsLimited (e : Ends) : Type 0 where

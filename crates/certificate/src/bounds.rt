@@ -1,19 +1,21 @@
-ghost use Rattle.std.specs.Prelude.{◌≡◌, ℕ, ◌^◌, ◌<◌, ◌≤◌, [], List, length, slice_index_or, unsigned_abs, ℤ, pos, ◌≤ℤ◌, ◌<ℤ◌, IfOk, OnOk, OnErr, Err};
+ghost use Rattle.std.specs.Prelude.{◌≡◌, ℕ, ◌^◌, ◌<◌, ◌≤◌, List, length, slice_index_or, unsigned_abs, ℤ, pos, ◌≤ℤ◌, ◌<ℤ◌, IfOk, IfErr, OnOk, OnErr};
 ghost use Rattle.flex_interval.specs.Ends.{Ends};
-ghost use Rattle.member_set.specs.Members.{IsSystem, IsModerate, row_count, member_of, force_of, nothing, system, AreStiff};
+ghost use Rattle.member_set.specs.Members.{IsSystem, HasStates, IsModerate, row_count, member_of, force_of, nothing, system, AreStiff};
 ghost use Rattle.member_set.specs.Realisation.{Realisation, IsRealisation, IsEquilibrium};
 ghost use Rattle.member_set.specs.Interval.{HaveForces, forces_of, residual_of};
 ghost use Rattle.int_laws.specs.Matrices.{Vector};
 ghost use Rattle.bound_laws.specs.Nearness.{IsResidualLength, AreForcesWithin, widened, alone, force_radius_of};
 ghost use Rattle.certificate.specs.Bounds.{IsDefiniteStiffness, HasResiduals, sum_of_squares, AreBounds, HasNoBounds, EnclosesEquilibrium, residual_length};
-ghost use Rattle.certificate.specs.Widening.{AreLimited, AreWidened, AreAroundDisplacements, IsTooUnsteady, only};
+ghost use Rattle.certificate.specs.Widening.{AreLimited, AreWidened, AreAroundDisplacements, IsTooUnsteady, enclosure, only};
+ghost use Rattle.certificate.specs.States.{AreBoundsInStates, HoldsStates, TellsFault};
 
 use crate::fault::EncloseFault;
 use crate::radii::{displacement_radius, force_radius, plus_square, root_of_squares, widened};
+use crate::states::{hold_forces, judge_states, put_pasts};
 use bound_laws::equilibria_are_near;
 use flex_interval::{Iv, Wide, point};
 use lists::Sequence;
-use member_set::{Built, Law, member_forces, residual_from};
+use member_set::{Built, Law, intervals_hold, member_forces, residual_from};
 use std::alloc::Global;
 
 /// Bounds of every equilibrium of a structure under loads.
@@ -23,14 +25,15 @@ pub struct Enclosure {
     pub u: Sequence<Iv>,
     /// The force of each member, in units of 2^-40 N or N m.
     pub force: Sequence<Iv>,
-    /// Whether each one-way member is closed.
+    /// Whether each one-way member is closed, by state numbers.
     pub closed: Sequence<bool>,
 }
 
 /// Bounds of every equilibrium, put around displacements `u`, one for each row in units of 2^-56 m or rad. They hold for every
-/// realisation whose stiffness is at least `lambda`, in units of 2^-20 N/m; how `u` was found is no premise. `Wide` where a
-/// residual or a force leaves its limit, where the squares of the residuals sum to 2^126 or more, or where a radius reaches
-/// 2^60. No law is one-way, so there are no states.
+/// realisation whose stiffness is at least `lambda`, in units of 2^-20 N/m; how `u` was found is no premise. Each one-way member
+/// is open or closed in all of them; an open one's force is 0. `Wide` where a residual, a force or the reach of a one-way member
+/// leaves its limit, where the squares of the residuals sum to 2^126 or more, or where a radius reaches 2^60; `State` names the
+/// first state number whose member's reach lies on neither side of its gap.
 pub fn enclose(
     alloc: Global,
     b: &Built,
@@ -40,24 +43,72 @@ pub fn enclose(
     lambda: i128,
 ) -> Result<Enclosure, EncloseFault>
     requires system { IsSystem (system b.now laws.now loads.now) }
-    requires linear { b.now.unilateral ≡ [] }
+    requires states { HasStates b.now laws.now }
     requires one_displacement_each { length u.now ≡ row_count b.now }
     requires moderate { IsModerate u.now }
     requires stiff { AreStiff b.now }
     requires positive { pos 1 ≤ℤ lambda }
-    ensures bounds { IfOk result (λ e. AreBounds (system b.now laws.now loads.now) u.now lambda e) }
+    ensures bounds { IfOk result (λ e. AreBoundsInStates (system b.now laws.now loads.now) u.now lambda e) }
     ensures encloses { IfOk result (λ e. (r : Realisation) (exact : Vector) → IsRealisation (system b.now laws.now loads.now) r →
-        IsDefiniteStiffness r.stiffness lambda → IsEquilibrium r exact → EnclosesEquilibrium e r exact) }
-    ensures wide { result ≡ Err EncloseFault.Wide → HasNoBounds (system b.now laws.now loads.now) u.now lambda }
+        IsDefiniteStiffness r.stiffness lambda → IsEquilibrium r exact → EnclosesEquilibrium e r exact × HoldsStates b.now e r exact) }
+    ensures fault { IfErr result (TellsFault (system b.now laws.now loads.now) u.now lambda) }
 {
     let mut displacements = vec![in alloc; point(0); u.len()]?;
     let mut forces = vec![in alloc; point(0); laws.len()]?;
-    put_bounds(b, laws, loads, u, lambda, &mut displacements, &mut forces)?;
+    let mut pasts = vec![in alloc; point(0); b.unilateral.as_slice().len()]?;
+    let mut closed = vec![in alloc; false; b.unilateral.as_slice().len()]?;
+    put_enclosure(
+        b,
+        laws,
+        loads,
+        u,
+        lambda,
+        &mut displacements,
+        &mut forces,
+        &mut pasts,
+        &mut closed,
+    )?;
     Ok(Enclosure {
         u: Sequence::new(displacements),
         force: Sequence::new(forces),
-        closed: Sequence::new(Vec::new(alloc)),
+        closed: Sequence::new(closed),
     })
+}
+
+/// Puts the bounds and the states in place of what the lists hold.
+fn put_enclosure(
+    b: &Built,
+    laws: &[Law],
+    loads: &[Iv],
+    u: &[i128],
+    lambda: i128,
+    displacements: &mut [Iv],
+    forces: &mut [Iv],
+    pasts: &mut [Iv],
+    closed: &mut [bool],
+) -> Result<(), EncloseFault>
+    requires system { IsSystem (system b.now laws.now loads.now) }
+    requires states { HasStates b.now laws.now }
+    requires one_displacement_each { length u.now ≡ row_count b.now }
+    requires moderate { IsModerate u.now }
+    requires stiff { AreStiff b.now }
+    requires positive { pos 1 ≤ℤ lambda }
+    requires one_bound_each { length displacements.old ≡ row_count b.now }
+    requires one_force_each { length forces.old ≡ length b.now.members }
+    requires one_past_each { length pasts.old ≡ length b.now.unilateral }
+    requires one_state_each { length closed.old ≡ length b.now.unilateral }
+    ensures bounds { OnOk result (AreBoundsInStates (system b.now laws.now loads.now) u.now lambda (enclosure displacements.new forces.new closed.new)) }
+    ensures encloses { OnOk result ((r : Realisation) (exact : Vector) → IsRealisation (system b.now laws.now loads.now) r →
+        IsDefiniteStiffness r.stiffness lambda → IsEquilibrium r exact →
+        EnclosesEquilibrium (enclosure displacements.new forces.new closed.new) r exact × HoldsStates b.now (enclosure displacements.new forces.new closed.new) r exact) }
+    ensures fault { IfErr result (TellsFault (system b.now laws.now loads.now) u.now lambda) }
+{
+    intervals_hold();
+    put_bounds(b, laws, loads, u, lambda, displacements, forces)?;
+    put_pasts(b, laws, displacements, pasts)?;
+    judge_states(pasts, closed)?;
+    hold_forces(b, closed, forces);
+    Ok(())
 }
 
 /// Puts the bounds in place of what the two lists hold.

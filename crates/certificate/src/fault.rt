@@ -10,6 +10,9 @@ pub enum EncloseFault {
     /// A residual, a member's force or a radius leaves its limit.
     #[error("a bound leaves its limit")]
     Wide,
+    /// The reach of a one-way member, over the bounds, lies on neither side of its gap; it is the first by its state number.
+    #[error("state {number} lies on neither side")]
+    State { number: u32 },
     /// Memory ran out.
     #[error("out of memory")]
     NoMemory,

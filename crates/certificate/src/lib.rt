@@ -12,6 +12,7 @@ mod radii;
 mod row_lists;
 mod row_sums;
 mod space;
+mod states;
 
 pub use bounds::{Enclosure, enclose};
 pub use check::{Verdict, check_definite};

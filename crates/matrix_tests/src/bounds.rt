@@ -1,6 +1,6 @@
-//! One node that six members of one stiffness hold, each in one freedom.
-ghost use Rattle.std.specs.Prelude.{◌≡◌, ◌^◌, ◌<◌, ◌≤◌, [], All, length, unsigned_abs, IfOk, IsTrue};
-ghost use Rattle.member_set.specs.Members.{IsBuilt, IsModerate, row_count, IsStiff, AreStiff};
+//! One node that six members of one stiffness hold, each in one freedom; the first can be one-way.
+ghost use Rattle.std.specs.Prelude.{◌≡◌, ℕ, ◌^◌, ◌<◌, ◌≤◌, ◌↔◌, Contains, All, length, unsigned_abs, IfOk, IsTrue};
+ghost use Rattle.member_set.specs.Members.{IsBuilt, IsModerate, IsOneway, row_count, IsStiff, AreStiff};
 
 use crate::makers::{counted, one_node};
 use certificate::{EncloseFault, Enclosure, enclose};
@@ -10,9 +10,9 @@ use std::alloc::{AllocError, Global};
 use std::process::Abort;
 use std::test::Fail;
 
-const LAWS: [Law; 6] = [Law::Linear {
+const LINEAR: Law = Law::Linear {
     offset: Iv { lo: 0, hi: 0 },
-}; 6];
+};
 
 fn anchor(freedom: usize, kappa: Iv) -> Member
     requires { freedom < 6 }
@@ -41,15 +41,30 @@ fn anchors(alloc: Global, kappa: Iv) -> Result<Vec<Member>, AllocError>
     Ok(members)
 }
 
-fn held_node(alloc: Global, kappa: Iv) -> Result<Built, AllocError>
-    requires { IsStiff kappa }
+// The first members, so many, have a state.
+fn held_node(alloc: Global, kappa: Iv, states: u32) -> Result<Built, AllocError>
+    requires stiff { IsStiff kappa }
+    requires few { states ≤ 6 }
     ensures built { IfOk result (λ b. IsBuilt b) }
     ensures stiff { IfOk result (λ b. AreStiff b) }
-    ensures linear { IfOk result (λ b. b.unilateral ≡ []) }
+    ensures states { IfOk result (λ b. (k : ℕ) → Contains b.unilateral k ↔ (k < states)) }
     ensures members { IfOk result (λ b. length b.members ≡ 6) }
     ensures rows { IfOk result (λ b. row_count b ≡ 6) }
 {
-    one_node(alloc, anchors(alloc, kappa)?, counted(alloc, 0, 6)?)
+    let members = anchors(alloc, kappa)?;
+    let numbers = counted(alloc, 0, 6)?;
+    one_node(alloc, members, numbers, counted(alloc, 0, states)?)
+}
+
+// How many states a member with this law has.
+fn states_of(law: &Law) -> u32
+    ensures few { result ≤ 1 }
+    ensures one { (0 < result) ↔ IsOneway law.now }
+{
+    match law {
+        Law::Linear { .. } => 0,
+        Law::Oneway { .. } => 1,
+    }
 }
 
 // Displacements are at most 2^60 in size.
@@ -71,6 +86,7 @@ fn is_moderate(z: i128) -> bool
 fn enclosed(
     rt: &impl Abort,
     alloc: Global,
+    first: Law,
     kappa: Iv,
     loads: &[Iv],
     u: &[i128],
@@ -79,8 +95,9 @@ fn enclosed(
     assert!(rt; kappa.lo >= 1 && kappa.hi < 1 << 61 && lambda >= 1);
     assert!(rt; loads.len() == 6 && u.len() == 6);
     check_moderate(rt, u);
-    let structure = held_node(alloc, kappa)?;
-    enclose(alloc, &structure, &LAWS, loads, u, lambda)
+    let structure = held_node(alloc, kappa, states_of(&first))?;
+    let laws = [first, LINEAR, LINEAR, LINEAR, LINEAR, LINEAR];
+    enclose(alloc, &structure, &laws, loads, u, lambda)
 }
 
 // The intervals have these ends.
@@ -120,7 +137,7 @@ fn around_a_node(rt: HostRuntime) -> Result<(), Fail> {
         hi: 3_145_728,
     };
     let u = [5 << 36, 0, -(1 << 36), 0, 0, 7];
-    let answer = enclosed(&rt, rt.alloc(), kappa, &LOADS, &u, 1000)?;
+    let answer = enclosed(&rt, rt.alloc(), LINEAR, kappa, &LOADS, &u, 1000)?;
     check_ends(
         &rt,
         answer.u.as_slice(),
@@ -168,8 +185,59 @@ fn limits(rt: HostRuntime) {
         let mut loads = [point(0); 6];
         loads[0] = load;
         let u = [u, 0, 0, 0, 0, 0];
-        let fault = enclosed(&rt, rt.alloc(), kappa, &loads, &u, lambda).err();
+        let fault = enclosed(&rt, rt.alloc(), LINEAR, kappa, &loads, &u, lambda).err();
         let want = if wide { Some(EncloseFault::Wide) } else { None };
         assert!(rt; fault == want, "a load of {} and more", load.lo);
     }
+}
+
+// A one-way member with a gap of 2^36 units and 3 N/m: pressed by five such units, not reached, and touched without load, which
+// is open. Nothing is left of the loads, so that the bounds are points.
+#[test]
+fn contact_states(rt: HostRuntime) -> Result<(), Fail> {
+    for (load, u, closed) in [
+        (15 << 20, 6 << 36, true),
+        (0, 0, false),
+        (0, 1 << 36, false),
+    ] {
+        let first = Law::Oneway {
+            gap: point(1 << 36),
+        };
+        let mut loads = [point(0); 6];
+        loads[0] = Iv { lo: load, hi: load };
+        let u = [u, 0, 0, 0, 0, 0];
+        let answer = enclosed(&rt, rt.alloc(), first, point(3 << 20), &loads, &u, 1)?;
+        assert!(rt; answer.closed.as_slice() == [closed].as_slice());
+        check_ends(
+            &rt,
+            answer.force.as_slice(),
+            &[(load, load), (0, 0), (0, 0), (0, 0), (0, 0), (0, 0)],
+        );
+    }
+    Ok(())
+}
+
+// A load of 2^10 that the second member's displacement leaves makes a radius of 2^24 of the displacements, and of 512 of the
+// forces. The first member, without a gap, is pressed by 2^24 units, which makes 256: it is closed, and its force not below 0.
+// By one unit less it lies on neither side.
+#[test]
+fn radii_of_states(rt: HostRuntime) -> Result<(), Fail> {
+    let first = Law::Oneway { gap: point(0) };
+    let kappa = point(1 << 20);
+    let mut loads = [point(0); 6];
+    loads[0] = point(256);
+    loads[1] = point(1 << 10);
+    let u = [1 << 24, 0, 0, 0, 0, 0];
+    let answer = enclosed(&rt, rt.alloc(), first, kappa, &loads, &u, 1 << 22)?;
+    assert!(rt; answer.closed.as_slice() == [true].as_slice());
+    let other = (-512, 512);
+    check_ends(
+        &rt,
+        answer.force.as_slice(),
+        &[(0, 768), other, other, other, other, other],
+    );
+    let less = [(1 << 24) - 1, 0, 0, 0, 0, 0];
+    let fault = enclosed(&rt, rt.alloc(), first, kappa, &loads, &less, 1 << 22).err();
+    assert!(rt; fault == Some(EncloseFault::State { number: 0 }));
+    Ok(())
 }

@@ -140,19 +140,20 @@ pub(crate) fn chain_factor(
     Factor::of_lists(alloc, &order, &rows, &values)
 }
 
-// A structure of one node, with the numbers of the members that touch it.
+// A structure of one node, with the numbers of the members that touch it and of those with a state.
 pub(crate) fn one_node(
     alloc: Global,
     members: Vec<Member>,
     numbers: Vec<u32>,
+    unilateral: Vec<u32>,
 ) -> Result<Built, AllocError>
-    ensures { IfOk result (λ b. b ≡ record { members = members.items; unilateral = []; stations = []; at = numbers.items ∷ [] }) }
+    ensures { IfOk result (λ b. b ≡ record { members = members.items; unilateral = unilateral.items; stations = []; at = numbers.items ∷ [] }) }
 {
     let mut at = Vec::new(alloc);
     at.push(Sequence::new(numbers))?;
     Ok(Built {
         members: Sequence::new(members),
-        unilateral: Sequence::new(Vec::new(alloc)),
+        unilateral: Sequence::new(unilateral),
         stations: Sequence::new(Vec::new(alloc)),
         at: Sequence::new(at),
     })

@@ -33,7 +33,12 @@ fn check_diagonal(rt: &impl Abort, factor: &Factor)
 // With the entries 2^44 of the factor the stiffness is 2^36, so that a load moves its row by as many units in each turn.
 #[test]
 fn eight_turns(rt: HostRuntime) -> Result<(), Fail> {
-    let structure = one_node(rt.alloc(), Vec::new(rt.alloc()), Vec::new(rt.alloc()))?;
+    let structure = one_node(
+        rt.alloc(),
+        Vec::new(rt.alloc()),
+        Vec::new(rt.alloc()),
+        Vec::new(rt.alloc()),
+    )?;
     let factor = chain_factor(rt.alloc(), 1, 1 << 44, 0)?;
     check_diagonal(&rt, &factor);
     let u = candidate(rt.alloc(), &structure, &[], &[], &LOADS, &factor)?;

@@ -1,13 +1,17 @@
 -- How a number within an interval is written over another denominator.
-use Rattle.std.proofs.Common.{◌≡◌, ◌∙◌, sym, ap, subst, arith, ◌^◌, ℤ, pos, neg_ℤ, ◌+ℤ◌, ◌-ℤ◌, ◌*ℤ◌, ◌<ℤ◌}
+use Rattle.std.proofs.Common.{◌≡◌, ◌∙◌, sym, ap, subst, arith, ◌^◌, ℤ, pos, neg_ℤ, ◌+ℤ◌, ◌-ℤ◌, ◌*ℤ◌, ◌<ℤ◌, ◌≤ℤ◌}
+use Rattle.std.proofs.lemmas.Int.{by_lt_z, clamps}
+use Rattle.std.specs.Int.{int_max}
 use Rattle.int_laws.proofs.Sums.{int_sums}
-use Rattle.int_laws.proofs.Products.{mul_comm, mul_assoc, one-mul, add-mul, neg-mul, sub-mul, moved_below, moved_above, mul_positive}
+use Rattle.int_laws.proofs.Products.{mul_comm, mul_assoc, one-mul, add-mul, neg-mul, sub-mul, moved_below, moved_above, mul_positive, zero-mul, le_mul}
 use Rattle.flex_interval.specs.Ends.{Ends}
 use Rattle.flex_interval.specs.Fraction.{Fraction, Within, plus, minus, negated, times, whole}
 use Rattle.member_set.specs.declared.members.Law.{Law}
-use Rattle.member_set.specs.declared.members.Law.TheVariants.{Linear}
+use Rattle.member_set.specs.declared.members.Law.TheVariants.{Linear, Oneway}
 use Rattle.member_set.specs.Members.{start_of}
-use Rattle.member_set.specs.Realisation.{fraction, reach_fraction, force_fraction, pull_fraction, ExactLaw, linear, IsLawWithin, IsOffsetWithin, stretch}
+use Rattle.member_set.specs.Realisation.{fraction, reach_fraction, force_fraction, pull_fraction, ExactLaw, linear, oneway, IsLawWithin, IsOffsetWithin, start_in, past_start, stretch}
+use Rattle.member_set.specs.Interval.{counted_of}
+use Rattle.flex_interval.specs.Operations.{max_of}
 
 -- products in one order, for `simp`
 left_comm : (a b c : ℤ) → a *ℤ (b *ℤ c) ≡ b *ℤ (a *ℤ c)
@@ -63,24 +67,73 @@ pub whole_within : (e : Ends) (u q : ℤ) → pos 0 <ℤ q → Within e (whole u
 unfolding whole
 whole_within e u q positive w = within-moved e _ _ (q *ℤ u) q positive (mul_comm u q ∙ sym (mul_one (q *ℤ u))) w
 
--- the force of a linear law: what is past the initial deformation, times the stiffness
-pub force_within : (q reach stiffness d : ℤ) (law : Law) (exact : ExactLaw) (kappa x y e : Ends) → pos 0 <ℤ q →
-    Within kappa (fraction stiffness q) → IsLawWithin q law exact → IsOffsetWithin q law d → Within x (reach_fraction q reach) →
+-- where the force begins is within its interval
+pub start_within : (q d : ℤ) (law : Law) (exact : ExactLaw) → IsLawWithin q law exact → IsOffsetWithin q law d → Within (start_of law) (fraction (start_in exact d) q)
+start_within q d (Linear offset) linear kind within = within
+start_within q d (Linear offset) (oneway g) kind within = elim kind [ ]
+start_within q d (Oneway gap) linear kind within = elim kind [ ]
+start_within q d (Oneway gap) (oneway g) kind within = kind
+
+-- what is past it is within the difference
+pub past_within : (q reach d : ℤ) (law : Law) (exact : ExactLaw) (x y : Ends) → pos 0 <ℤ q →
+    IsLawWithin q law exact → IsOffsetWithin q law d → Within x (reach_fraction q reach) →
     ((a b : Fraction) → Within x a → Within (start_of law) b → Within y (minus a b)) →
-    ((a b : Fraction) → Within kappa a → Within y b → Within e (times a b 36)) →
-    Within e (force_fraction q (stiffness *ℤ stretch q exact d reach))
-unfolding times
-force_within q reach stiffness d (Linear offset) linear kappa x y e positive kappa_within kind offset_within x_within less product =
+    Within y (reach_fraction q (past_start q exact d reach))
+past_within q reach d law exact x y positive kind offset_within x_within less =
     let den = square_unit q positive in
-    let start = within-moved offset d q ((pos (2 ^ 56) *ℤ q) *ℤ d) (pos (2 ^ 56) *ℤ (q *ℤ q)) den (over_square d q (pos (2 ^ 56))) offset_within in
-    let past = difference_within y reach ((pos (2 ^ 56) *ℤ q) *ℤ d) (pos (2 ^ 56) *ℤ (q *ℤ q)) den (less _ _ x_within start) in
-    within-moved e _ _ _ (pos (2 ^ 92) *ℤ ((q *ℤ q) *ℤ q)) (mul_positive (pos (2 ^ 92)) ((q *ℤ q) *ℤ q) (omega (arith, int_sums)) (mul_positive (q *ℤ q) q (mul_positive q q positive positive) positive))
-    (over_cube (stiffness *ℤ (reach -ℤ ((pos (2 ^ 56) *ℤ q) *ℤ d))) q (pos (2 ^ 56)) (pos (2 ^ 36)))
-    (product _ _ kappa_within past)
+    let start = within-moved (start_of law) (start_in exact d) q ((pos (2 ^ 56) *ℤ q) *ℤ start_in exact d) (pos (2 ^ 56) *ℤ (q *ℤ q)) den
+    (over_square (start_in exact d) q (pos (2 ^ 56))) (start_within q d law exact kind offset_within) in
+    difference_within y reach ((pos (2 ^ 56) *ℤ q) *ℤ start_in exact d) (pos (2 ^ 56) *ℤ (q *ℤ q)) den (less _ _ x_within start)
   where
     over_square : (d q unit : ℤ) → d *ℤ (unit *ℤ (q *ℤ q)) ≡ ((unit *ℤ q) *ℤ d) *ℤ q
     over_square d q unit = simp factors
 
+-- the greater of 0 and a number is within the ends' greater ones
+max_below : (lo n d : ℤ) → pos 0 <ℤ d → (lo *ℤ d) ≤ℤ n → (int_max (pos 0) lo *ℤ d) ≤ℤ int_max (pos 0) n
+max_below lo n d positive below =
+    by_lt_z (pos 0) lo
+    (λ high.
+    let all : int_max (pos 0) lo ≡ lo = omega (arith, int_sums, clamps) in
+    let same = ap (λ (z : ℤ). z *ℤ d) all in
+    omega (arith, int_sums, clamps, same))
+    (λ low.
+    let none : int_max (pos 0) lo ≡ pos 0 = omega (arith, int_sums, clamps) in
+    let gone = ap (λ (z : ℤ). z *ℤ d) none in
+    omega (arith, int_sums, clamps, gone, zero-mul d))
+
+max_above : (hi n d : ℤ) → pos 0 <ℤ d → n ≤ℤ (hi *ℤ d) → int_max (pos 0) n ≤ℤ (int_max (pos 0) hi *ℤ d)
+max_above hi n d positive above =
+    let up : pos 0 ≤ℤ int_max (pos 0) hi = omega (arith, int_sums, clamps) in
+    let more : hi ≤ℤ int_max (pos 0) hi = omega (arith, int_sums, clamps) in
+    let scaled = le_mul d (omega (arith, int_sums)) more in
+    let none = le_mul d (omega (arith, int_sums)) up in
+    omega (arith, int_sums, clamps, scaled, none, zero-mul d)
+
+-- what counts of what is past the start is within what counts of its interval
+pub counted_within : (q reach d : ℤ) (law : Law) (exact : ExactLaw) (past : Ends) → pos 0 <ℤ q → IsLawWithin q law exact →
+    Within past (reach_fraction q (past_start q exact d reach)) → Within (counted_of law past) (reach_fraction q (stretch q exact d reach))
+unfolding max_of
+counted_within q reach d (Linear offset) linear past positive kind within = within
+counted_within q reach d (Linear offset) (oneway g) past positive kind within = elim kind [ ]
+counted_within q reach d (Oneway gap) linear past positive kind within = elim kind [ ]
+counted_within q reach d (Oneway gap) (oneway g) past positive kind within =
+    record {
+      defined = within.defined;
+      at_least = max_below past.lo _ _ within.defined within.at_least;
+      at_most = max_above past.hi _ _ within.defined within.at_most;
+    }
+
+-- the stiffness times what counts
+pub force_within : (q stiffness counts : ℤ) (kappa y e : Ends) → pos 0 <ℤ q →
+    Within kappa (fraction stiffness q) → Within y (reach_fraction q counts) →
+    ((a b : Fraction) → Within kappa a → Within y b → Within e (times a b 36)) →
+    Within e (force_fraction q (stiffness *ℤ counts))
+unfolding times
+force_within q stiffness counts kappa y e positive kappa_within counts_within product =
+    within-moved e _ _ _ (pos (2 ^ 92) *ℤ ((q *ℤ q) *ℤ q)) (mul_positive (pos (2 ^ 92)) ((q *ℤ q) *ℤ q) (omega (arith, int_sums)) (mul_positive (q *ℤ q) q (mul_positive q q positive positive) positive))
+    (over_cube (stiffness *ℤ counts) q (pos (2 ^ 56)) (pos (2 ^ 36)))
+    (product _ _ kappa_within counts_within)
+  where
     over_cube : (n q unit step : ℤ) → n *ℤ ((unit *ℤ step) *ℤ ((q *ℤ q) *ℤ q)) ≡ n *ℤ ((q *ℤ (unit *ℤ (q *ℤ q))) *ℤ step)
     over_cube n q unit step = simp factors
 

@@ -1,10 +1,9 @@
 -- What the intervals of reach, force and residual enclose, by their definitions.
-use Rattle.std.proofs.Common.{◌≡◌, ℕ, zero, suc, ◌+◌, ◌*◌, ◌/◌, ◌<◌, ◌≤◌, ◌^◌, Bool, true, false, refl, sym, subst, ap, ◌∙◌, arith, List, length, slice_index, Ok, Err, ℤ, pos, ◌-ℤ◌, ◌*ℤ◌, ◌<ℤ◌, unsigned_abs, if◌then◌else◌}
+use Rattle.std.proofs.Common.{◌≡◌, ℕ, ◌+◌, ◌*◌, ◌/◌, ◌<◌, ◌≤◌, ◌^◌, Bool, true, false, refl, subst, arith, List, length, slice_index, Ok, Err, ℤ, pos, ◌-ℤ◌, ◌*ℤ◌, ◌<ℤ◌, unsigned_abs, if◌then◌else◌}
 use Rattle.std.specs.Prelude.{◌&&◌, nat_lt, slice_index_or}
 use Rattle.int_laws.proofs.Sums.{int_sums}
 use Rattle.int_laws.proofs.Products.{zero-mul, mul_comm}
 use Rattle.int_laws.specs.Sums.{sum_below}
-use Rattle.int_laws.specs.Matrices.{Vector}
 use Rattle.flex_interval.specs.Ends.{Ends}
 use Rattle.flex_interval.specs.Fraction.{Within}
 use Rattle.flex_interval.specs.Inclusion.{SumHolds, DifferenceHolds, ProductHolds}
@@ -13,12 +12,12 @@ use Rattle.lists.specs.Results.{and_then}
 use Rattle.flex_interval.specs.declared.fault.IvFault.TheVariants.{Wide}
 use Rattle.member_set.specs.declared.members.Member.{Member}
 use Rattle.member_set.specs.declared.members.Law.{Law}
-use Rattle.member_set.specs.declared.members.Law.TheVariants.{Linear}
-use Rattle.member_set.specs.Members.{nothing, shape_at, member_of, members_at, law_of, load_of, row_count}
-use Rattle.member_set.specs.Realisation.{ExactMember, IsMemberWithin, IsOffsetWithin, exact_reach, exact_force, force_in, exact_load, displaced, fraction, reach_fraction, force_fraction, pull_fraction}
-use Rattle.member_set.specs.Interval.{Outcome, in_turn, place_count, touched_row, points, reach_term, reach_of, law_force_of, limited_force, member_force_of, pull_of, residual_term, residual_with}
-use Rattle.member_set.specs.Inclusion.{ReachHolds, ForcesHold, ResidualsHold}
-use Rattle.member_set.proofs.Fractions.{square_unit, product_within, reach_sum_within, force_within, pull_within, pull_less_within, pull_taken, load_within}
+use Rattle.member_set.specs.Members.{nothing, shape_at, start_of, member_of, members_at, law_of, load_of}
+use Rattle.member_set.specs.Realisation.{ExactMember, IsMemberWithin, IsOffsetWithin, exact_reach, exact_force, stretch, force_in, exact_load, displaced, fraction, reach_fraction, force_fraction, pull_fraction, reach_in}
+use Rattle.member_set.specs.Interval.{place_count, touched_row, points, reach_term, reach_of, counted_of, law_force_of, limited_force, member_force_of, pull_of, residual_term, residual_with}
+use Rattle.member_set.specs.States.{state_member}
+use Rattle.member_set.specs.Inclusion.{ReachHolds, PastsHold, ForcesHold, ResidualsHold}
+use Rattle.member_set.proofs.Fractions.{square_unit, product_within, reach_sum_within, past_within, counted_within, force_within, pull_within, pull_less_within, pull_taken, load_within}
 use Rattle.member_set.proofs.Rows.{touched_row-inside, shape_at-touched_row, reach_by_places, nothing_is_zero}
 use Rattle.member_set.proofs.Touching.{ok_of, numbers_in_range, resistance_by_node}
 use Rattle.member_set.proofs.Turns.{first_of, in_turn_holds}
@@ -49,6 +48,15 @@ reach_holds sums products m displacement rows e q x u first second positive shap
     let none : (row : ℕ) → shape_at m row ≡ nothing → x.shape row ≡ pos 0 = λ row off. nothing_is_zero (x.shape row) q (rw off at (shape row)) in
     rw (← reach_by_places m rows x.shape u first second none) turned
 
+-- what is past a state's gap
+pub pasts_hold : DifferenceHolds → PastsHold
+pasts_hold differences s r u number x e built real inside x_within is =
+    let k = state_member s.structure number in
+    let k_inside : state_member s.structure number < r.stiffness.members = rw real.stiffness.all_members (built.states_inside number inside) in
+    past_within r.stiffness.denominator (reach_in r.stiffness u k) (r.numbers.offset k) (law_of s.laws k) (r.stiffness.member k).law x e real.stiffness.positive
+    (real.stiffness.member_within k k_inside).law_within (real.numbers.offset_within k k_inside) x_within
+    (λ a b in_a in_b. differences x (start_of (law_of s.laws k)) e a b is in_a in_b)
+
 -- a whole number is within the interval of itself
 points_within : (u : List ℤ) (q : ℤ) (row : ℕ) → pos 0 <ℤ q → Within (points u row) (fraction (displaced q u row) q)
 points_within u q row positive =
@@ -59,11 +67,13 @@ points_within u q row positive =
 law_force_holds : DifferenceHolds → ProductHolds → (m : Member) (law : Law) (x e : Ends) (q reach offset : ℤ) (exact : ExactMember) → pos 0 <ℤ q →
     IsMemberWithin q m law exact → IsOffsetWithin q law offset → Within x (reach_fraction q reach) → law_force_of m law x ≡ Ok e →
     Within e (force_fraction q (exact_force q exact offset reach))
-law_force_holds differences products m (Linear start) x e q reach offset exact positive member offset_within x_within is =
-    let past = first_of (sub_of x start) (λ y. mul_of m.kappa y 36) e is in
-    force_within q reach exact.stiffness offset (Linear start) exact.law m.kappa x past.0 e positive member.stiffness_within member.law_within offset_within x_within
-    (λ a b in_a in_b. differences x start past.0 a b past.1 in_a in_b)
-    (λ a b in_a in_b. products m.kappa past.0 e 36 a b past.2 in_a in_b)
+law_force_holds differences products m law x e q reach offset exact positive member offset_within x_within is =
+    let past = first_of (sub_of x (start_of law)) (λ y. mul_of m.kappa (counted_of law y) 36) e is in
+    let past_in = past_within q reach offset law exact.law x past.0 positive member.law_within offset_within x_within
+    (λ a b in_a in_b. differences x (start_of law) past.0 a b past.1 in_a in_b) in
+    force_within q exact.stiffness (stretch q exact.law offset reach) m.kappa (counted_of law past.0) e positive member.stiffness_within
+    (counted_within q reach offset law exact.law past.0 positive member.law_within past_in)
+    (λ a b in_a in_b. products m.kappa (counted_of law past.0) e 36 a b past.2 in_a in_b)
 
 -- a force that is below the limit is the force
 limited_by : (t : Bool) (f e : Ends) → (if t then ok_of f else Err Wide) ≡ Ok e → f ≡ e

@@ -5,3 +5,4 @@ pub mod Turns
 pub mod RestLaw
 pub mod StretchLaw
 pub mod InclusionLaws
+pub mod StateLaws

@@ -1,5 +1,5 @@
 -- The members at a node, and what each holds against a load of the node.
-use Rattle.std.proofs.Common.{◌≡◌, ◌≢◌, ◌*ℤ◌, ℕ, ◌/◌, ◌<◌, ◌⊎◌, inl, inr, List, length, get_or, slice_index, Ok, Err, ◌+◌, ◌*◌, refl, subst, ap, sym, ◌∙◌, arith, ℤ, pos}
+use Rattle.std.proofs.Common.{◌≡◌, ◌≢◌, ◌*ℤ◌, ℕ, ◌/◌, ◌<◌, ◌≤◌, ◌⊎◌, inl, inr, List, length, get_or, slice_index, Ok, Err, ◌+◌, ◌*◌, refl, subst, ap, sym, ◌∙◌, arith, ℤ, pos}
 use Rattle.std.proofs.lemmas.Grind.{get_or_default_zero}
 use Rattle.std.proofs.lemmas.List.{get_or_read_under}
 use Rattle.flex_interval.specs.Operations.{sub_of}
@@ -11,9 +11,8 @@ use Rattle.int_laws.proofs.Products.{zero-mul}
 use Rattle.int_laws.proofs.SumLaws.{sum_below-reindexed}
 use Rattle.member_set.specs.declared.members.Member.{Member}
 use Rattle.member_set.specs.declared.members.Built.{Built}
-use Rattle.member_set.specs.declared.members.Law.{Law}
-use Rattle.member_set.specs.Members.{load_of, force_of, row_count, IsBuilt, member_of, members_at, built_nodes, no_member, nothing, shape_at, system}
-use Rattle.member_set.specs.Interval.{Outcome, in_turn, pull_of, residual_term, residual_with, residual_of, forces_of, HaveForces}
+use Rattle.member_set.specs.Members.{load_of, force_of, row_count, IsBuilt, member_of, members_at, built_nodes, no_member, nothing, shape_at}
+use Rattle.member_set.specs.Interval.{Outcome, in_turn, pull_of, residual_term, residual_with, HaveForces}
 use Rattle.member_set.proofs.Turns.{in_turn-next, in_turn-fault, in_turn-same, in_turn-some_fault}
 use Rattle.flex_interval.specs.Ends.{Ends}
 use Rattle.flex_interval.specs.declared.fault.IvFault.{IvFault}
@@ -22,6 +21,13 @@ pub numbers_in_range : (b : Built) → IsBuilt b → (node t : ℕ) → node < b
     slice_index (members_at b node) t < length b.members
 numbers_in_range b built node t node_inside inside =
     ((built.touching node (slice_index (members_at b node) t) node_inside).0 (t, inside, get_or_default_zero (members_at b node) t _ inside)).0
+
+-- the nodes of a member have their six rows
+pub rows_fit : (b : Built) → IsBuilt b → (k : ℕ) → k < length b.members → (6 * (member_of b k).n1 + 6 ≤ row_count b) × (6 * (member_of b k).n2 + 6 ≤ row_count b)
+rows_fit b built k inside =
+    let first = built.first_node k inside in
+    let second = built.second_node k inside in
+    (omega arith, omega arith)
 
 -- what the n-th member at a row's node holds, by the member itself
 pub residual_term-at : (b : Built) (force : ℕ → Outcome) (row n : ℕ) (numbers : List ℕ) (m : Member) →
@@ -113,14 +119,14 @@ residual_from-forces b built loads force forces row inside have =
     residual_with-same b built loads (λ k. ok_of (force_of forces k)) force row inside (λ k below. sym (have.value k below))
 
 -- where a member has no force, a row of its first node has no residual
-pub residual-without_force : (b : Built) → IsBuilt b → (laws : List Law) (u : List ℤ) (k : ℕ) (fault : IvFault) → k < length b.members →
-    forces_of b laws u k ≡ Err fault → (loads : List Ends) → (row : ℕ) × (row < row_count b) × IsErr (residual_of (system b laws loads) u row)
+pub residual-without_force : (b : Built) → IsBuilt b → (force : ℕ → Outcome) (k : ℕ) (fault : IvFault) → k < length b.members →
+    force k ≡ Err fault → (loads : List Ends) → (row : ℕ) × (row < row_count b) × IsErr (residual_with b loads force row)
 unfolding residual_with
-residual-without_force b built laws u k fault inside none loads =
+residual-without_force b built force k fault inside none loads =
     let node = (member_of b k).n1 in
     let row = 6 * node in
     let node_inside : node < built_nodes b = built.first_node k inside in
     let node_is : row / 6 ≡ node = omega arith in
     let place = placed (members_at b (row / 6)) k (subst (λ (n : ℕ). Contains (members_at b n) k) (sym node_is) ((built.touching node k node_inside).1 (inside, inl refl))) in
-    let here : residual_term b (forces_of b laws u) row place.0 ≡ Err fault = rw (place.2, none) in
-    (row, omega arith, in_turn-some_fault sub_of (load_of loads row) (residual_term b (forces_of b laws u) row) (length (members_at b (row / 6))) place.0 fault place.1 here)
+    let here : residual_term b force row place.0 ≡ Err fault = rw (place.2, none) in
+    (row, omega arith, in_turn-some_fault sub_of (load_of loads row) (residual_term b force row) (length (members_at b (row / 6))) place.0 fault place.1 here)

@@ -7,8 +7,9 @@ use Rattle.int_laws.specs.Matrices.{Vector}
 use Rattle.member_set.specs.declared.members.Member.{Member}
 use Rattle.member_set.specs.declared.members.Built.{Built}
 use Rattle.member_set.specs.Members.{IsBuilt, System, shape_at, row_count, member_of, members_at, nothing}
-use Rattle.member_set.specs.Realisation.{ExactMember, Realisation, IsRealisation, exact_reach, force_in, displaced, fraction, reach_fraction, force_fraction, exact_residual}
-use Rattle.member_set.specs.Interval.{Outcome, reach_of, forces_of, residual_with, residual_of}
+use Rattle.member_set.specs.Realisation.{ExactMember, Realisation, IsRealisation, exact_reach, reach_in, past_in, force_in, displaced, fraction, reach_fraction, force_fraction, exact_residual}
+use Rattle.member_set.specs.States.{state_member, state_reach_of}
+use Rattle.member_set.specs.Interval.{Outcome, reach_of, forces_of, residual_with}
 
 -- the interval of a reach holds the reach of all displacements within theirs
 abbrev pub ReachHolds : Type 0
@@ -31,6 +32,14 @@ ResidualsHold = (s : System) (r : Realisation) (force : ℕ → Outcome) (u : Ve
     IsBuilt s.structure → IsRealisation s r → row < row_count s.structure →
     ((k : ℕ) (f : Ends) → k < r.stiffness.members → force k ≡ Ok f → Within f (force_fraction r.stiffness.denominator (force_in r u k))) →
     residual_with s.structure s.loads force row ≡ Ok e → Within e (exact_residual r u row)
+
+-- the interval of what is past the gap of a state's member holds that of each realisation
+abbrev pub PastsHold : Type 0
+PastsHold = (s : System) (r : Realisation) (u : Vector) (number : ℕ) (x e : Ends) →
+    IsBuilt s.structure → IsRealisation s r → number < length s.structure.unilateral →
+    Within x (reach_fraction r.stiffness.denominator (reach_in r.stiffness u (state_member s.structure number))) →
+    state_reach_of s.structure s.laws number x ≡ Ok e →
+    Within e (reach_fraction r.stiffness.denominator (past_in r u (state_member s.structure number)))
 
 -- the numbers of the members at a row's node are numbers of members
 abbrev pub NumbersAreInRange : Type 0

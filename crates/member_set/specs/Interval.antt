@@ -1,15 +1,15 @@
 -- The interval that each call answers, or its fault, rounding by rounding.
 use Rattle.std.specs.Prelude.{◌≡◌, ◌<◌, ◌≤◌, ℕ, zero, suc, ◌+◌, ◌-◌, ◌*◌, ◌/◌, ◌^◌, ◌&&◌, ◌==◌, nat_lt, List, length, slice_index, slice_index_or, ℤ, pos, unsigned_abs, Result, Ok, Err, if◌then◌else◌}
 use Rattle.flex_interval.specs.Ends.{Ends}
-use Rattle.flex_interval.specs.Operations.{point_of, add_of, sub_of, mul_of}
+use Rattle.flex_interval.specs.Operations.{point_of, add_of, sub_of, mul_of, max_of}
 use Rattle.lists.specs.Results.{and_then}
 use Rattle.flex_interval.specs.declared.fault.IvFault.{IvFault}
 use Rattle.flex_interval.specs.declared.fault.IvFault.TheVariants.{Wide}
 use Rattle.member_set.specs.declared.members.Member.{Member}
 use Rattle.member_set.specs.declared.members.Law.{Law}
-use Rattle.member_set.specs.declared.members.Law.TheVariants.{Linear}
+use Rattle.member_set.specs.declared.members.Law.TheVariants.{Linear, Oneway}
 use Rattle.member_set.specs.declared.members.Built.{Built}
-use Rattle.member_set.specs.Members.{nothing, shape_at, member_of, law_of, load_of, force_of, members_at, System}
+use Rattle.member_set.specs.Members.{nothing, shape_at, start_of, member_of, law_of, load_of, force_of, members_at, System}
 
 -- an interval, or why there is none
 abbrev pub Outcome : Type 0
@@ -53,9 +53,14 @@ reach_term m displacement place = mul_of (slice_index_or m.w place nothing) (dis
 unfoldable pub reach_of : Member → (ℕ → Ends) → Outcome
 reach_of m displacement = in_turn add_of nothing (reach_term m displacement) (place_count m)
 
--- the force by the law: kappa (x - offset)
+-- what counts of a reach past the start: all of it, or nothing below 0
+abbrev pub counted_of : Law → Ends → Ends
+counted_of (Linear offset) past = past
+counted_of (Oneway gap) past = max_of nothing past
+
+-- the force by the law: kappa (x - start), and none below the gap of a one-way law
 abbrev pub law_force_of : Member → Law → Ends → Outcome
-law_force_of m (Linear offset) x = and_then (sub_of x offset) (λ y. mul_of m.kappa y 36)
+law_force_of m law x = and_then (sub_of x (start_of law)) (λ past. mul_of m.kappa (counted_of law past) 36)
 
 -- below 2^66 in size
 abbrev pub limited_force : Ends → Outcome

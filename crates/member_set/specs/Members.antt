@@ -1,9 +1,10 @@
 -- Members, their nodes and their rows. Freedom f of node n, `ux uy uz rx ry rz`, has row `6 n + f`.
-use Rattle.std.specs.Prelude.{ℕ, ◌+◌, ◌*◌, ◌/◌, ◌%◌, ◌<◌, ◌≡◌, ◌==◌, ◌||◌, Bool, ◌⊎◌, ◌↔◌, List, [], length, slice_index_or, Contains, AllPairs, ℤ, pos, ◌≤ℤ◌, ◌<ℤ◌, if◌then◌else◌, All, unsigned_abs, ◌≤◌, ◌^◌}
+use Rattle.std.specs.Prelude.{ℕ, ◌+◌, ◌*◌, ◌/◌, ◌%◌, ◌<◌, ◌≡◌, ◌==◌, ◌||◌, Bool, ◌⊎◌, ◌↔◌, List, [], ⊤, length, slice_index, slice_index_or, Contains, ℤ, pos, ◌≤ℤ◌, ◌<ℤ◌, if◌then◌else◌, All, unsigned_abs, ◌≤◌, ◌^◌}
 use Rattle.flex_interval.specs.Ends.{Ends}
+use Rattle.lists.specs.Rising.{IsRising}
 use Rattle.member_set.specs.declared.members.Member.{Member}
 use Rattle.member_set.specs.declared.members.Law.{Law}
-use Rattle.member_set.specs.declared.members.Law.TheVariants.{Linear}
+use Rattle.member_set.specs.declared.members.Law.TheVariants.{Linear, Oneway}
 use Rattle.member_set.specs.declared.members.Built.{Built}
 
 -- the interval of 0 alone
@@ -24,9 +25,15 @@ Touches m node = (m.n1 ≡ node) ⊎ (m.n2 ≡ node)
 abbrev pub touches : Member → ℕ → Bool
 touches m node = (m.n1 == node) || (m.n2 == node)
 
--- the reach at which the force of a law begins
+-- the reach at which the force of a law begins: the initial deformation, or the gap
 abbrev pub start_of : Law → Ends
 start_of (Linear offset) = offset
+start_of (Oneway gap) = gap
+
+-- the member holds in its direction alone, past a gap
+abbrev pub IsOneway : Law → Type 0
+IsOneway (Linear offset) = ⊥
+IsOneway (Oneway gap) = ⊤
 
 -- a member and a law for reads past the end of a list
 abbrev pub no_member : Member
@@ -57,15 +64,23 @@ row_count b = 6 * built_nodes b
 abbrev pub members_at : Built → ℕ → List ℕ
 members_at b node = slice_index_or b.at node []
 
--- rows have numbers of 32 bits, the members' nodes are in range, and `at` has for each node the numbers of the members
--- that touch it, rising
+-- rows and members have numbers of 32 bits, the members' nodes are in range, and `at` has for each node the numbers of the members
+-- that touch it, rising; the members with a state are numbered in their order
 pub record IsBuilt (b : Built) : Type 0 where
   pub numbered : row_count b ≤ 2 ^ 32
+  pub members_numbered : length b.members ≤ 2 ^ 32
   pub first_node : (k : ℕ) → k < length b.members → (member_of b k).n1 < built_nodes b
   pub second_node : (k : ℕ) → k < length b.members → (member_of b k).n2 < built_nodes b
-  pub rising : (node : ℕ) → AllPairs (λ x y. x < y) (members_at b node)
+  pub rising : (node : ℕ) → IsRising (members_at b node)
   pub touching : (node k : ℕ) → node < built_nodes b →
       Contains (members_at b node) k ↔ ((k < length b.members) × Touches (member_of b k) node)
+  pub states_numbered : length b.unilateral ≤ 2 ^ 32
+  pub states_rising : IsRising b.unilateral
+  pub states_inside : (number : ℕ) → number < length b.unilateral → slice_index b.unilateral number < length b.members
+
+-- the members with a state are those with a one-way law
+abbrev pub HasStates : Built → List Law → Type 0
+HasStates b laws = (k : ℕ) → k < length b.members → Contains b.unilateral k ↔ IsOneway (law_of laws k)
 
 -- a stiffness is from 1 to below 2^61, in units of 2^-20 N/m
 pub record IsStiff (kappa : Ends) : Type 0 where

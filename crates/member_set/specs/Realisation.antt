@@ -3,7 +3,7 @@
 --
 -- A number of a realisation stands over the realisation's denominator, in the unit of its enclosure: stiffnesses in
 -- 2^-20 N/m, shape numbers in 2^-56, displacements and initial deformations in 2^-56 m or rad, loads in 2^-40 N or N m.
-use Rattle.std.specs.Prelude.{ℕ, ◌^◌, ◌<◌, ◌≡◌, List, length, slice_index_or, Bool, true, if◌then◌else◌, ℤ, pos, ◌-ℤ◌, ◌*ℤ◌, ◌<ℤ◌, ◌≤ℤ◌, ⊤}
+use Rattle.std.specs.Prelude.{ℕ, ◌^◌, ◌<◌, ◌≡◌, List, length, slice_index_or, Bool, true, false, if◌then◌else◌, ℤ, pos, ◌-ℤ◌, ◌*ℤ◌, ◌<ℤ◌, ◌≤ℤ◌, ⊤}
 use Rattle.int_laws.specs.Sums.{sum_below}
 use Rattle.int_laws.specs.Matrices.{Vector, Entries}
 use Rattle.flex_interval.specs.Ends.{Ends}
@@ -11,16 +11,19 @@ use Rattle.flex_interval.specs.Fraction.{Fraction, Within}
 use Rattle.member_set.specs.declared.members.Member.{Member}
 use Rattle.member_set.specs.declared.members.Built.{Built}
 use Rattle.member_set.specs.declared.members.Law.{Law}
-use Rattle.member_set.specs.declared.members.Law.TheVariants.{Linear}
+use Rattle.member_set.specs.declared.members.Law.TheVariants.{Linear, Oneway}
+use Rattle.std.specs.Int.{int_max}
 use Rattle.member_set.specs.Members.{nothing, shape_at, start_of, member_of, law_of, load_of, force_of, row_count, System}
 
 -- n / q
 abbrev pub fraction : ℤ → ℤ → Fraction
 fraction n q = record { num = n; den = q }
 
--- a member's law in a realisation. A linear law has no number of its own: where its force begins is a number of the case
+-- a member's law in a realisation. A linear law has no number of its own: where its force begins is a number of the case.
+-- The gap of a one-way law is a number of the structure
 pub data ExactLaw : Type 0 where
   linear : ExactLaw
+  oneway : ℤ → ExactLaw
 
 -- a member in a realisation: its stiffness K, its shape number W on each row, and its law
 pub record ExactMember : Type 0 where
@@ -50,10 +53,14 @@ pub record Realisation : Type 0 where
 -- the law is of its kind, and a number of its own is within its interval
 abbrev pub IsLawWithin : ℤ → Law → ExactLaw → Type 0
 IsLawWithin q (Linear offset) linear = ⊤
+IsLawWithin q (Linear offset) (oneway g) = ⊥
+IsLawWithin q (Oneway gap) linear = ⊥
+IsLawWithin q (Oneway gap) (oneway g) = Within gap (fraction g q)
 
--- the initial deformation is within its interval
+-- the initial deformation is within its interval; a one-way law has none
 abbrev pub IsOffsetWithin : ℤ → Law → ℤ → Type 0
 IsOffsetWithin q (Linear offset) d = Within offset (fraction d q)
+IsOffsetWithin q (Oneway gap) d = ⊤
 
 -- each number of a member is within its interval
 pub record IsMemberWithin (q : ℤ) (m : Member) (law : Law) (x : ExactMember) : Type 0 where
@@ -84,15 +91,26 @@ pub record IsRealisation (s : System) (r : Realisation) : Type 0 where
 abbrev pub exact_reach : ℕ → ExactMember → Vector → ℤ
 exact_reach rows m u = sum_below rows (λ row. m.shape row *ℤ u row)
 
--- what of a reach counts for the force, with an initial deformation: all that is past it, where the law is linear
-abbrev pub stretch : ℤ → ExactLaw → ℤ → ℤ → ℤ
-stretch q linear offset reach = reach -ℤ ((pos (2 ^ 56) *ℤ q) *ℤ offset)
+-- where the force begins: at the initial deformation, or at the gap
+abbrev pub start_in : ExactLaw → ℤ → ℤ
+start_in linear offset = offset
+start_in (oneway g) offset = g
 
--- the force is proportional to all that is past the initial deformation
+-- by how much a reach is past that: below 0 where it falls short
+abbrev pub past_start : ℤ → ExactLaw → ℤ → ℤ → ℤ
+past_start q law offset reach = reach -ℤ ((pos (2 ^ 56) *ℤ q) *ℤ start_in law offset)
+
+-- what of a reach counts for the force: all that is past the start, where the law is linear; else nothing below 0
+abbrev pub stretch : ℤ → ExactLaw → ℤ → ℤ → ℤ
+stretch q linear offset reach = past_start q linear offset reach
+stretch q (oneway g) offset reach = int_max (pos 0) (past_start q (oneway g) offset reach)
+
+-- the force is proportional to all that is past the start
 abbrev pub is_linear : ExactLaw → Bool
 is_linear linear = true
+is_linear (oneway g) = false
 
--- F = K (W.U - 2^56 q D): 2^92 q^3 times the member's force
+-- F = K times what counts, which is W.U - 2^56 q D for a linear law: 2^92 q^3 times the member's force
 abbrev pub exact_force : ℤ → ExactMember → ℤ → ℤ → ℤ
 exact_force q m offset reach = m.stiffness *ℤ stretch q m.law offset reach
 
@@ -102,6 +120,15 @@ reach_in s u k = exact_reach s.rows (s.member k) u
 
 abbrev pub force_in : Realisation → Vector → ℕ → ℤ
 force_in r u k = exact_force r.stiffness.denominator (r.stiffness.member k) (r.numbers.offset k) (reach_in r.stiffness u k)
+
+-- by how much the reach along a member is past where its force begins
+abbrev pub past_in : Realisation → Vector → ℕ → ℤ
+past_in r u k = past_start r.stiffness.denominator (r.stiffness.member k).law (r.numbers.offset k) (reach_in r.stiffness u k)
+
+-- the contact state of a one-way member: open where its reach is at most the gap, closed where it is at least the gap
+abbrev pub IsInState : Realisation → Vector → ℕ → Bool → Type 0
+IsInState r u k false = past_in r u k ≤ℤ pos 0
+IsInState r u k true = pos 0 ≤ℤ past_in r u k
 
 -- the sum over the members of W_row F: what they hold against the load of a row
 abbrev pub resistance : Realisation → Vector → ℕ → ℤ
@@ -185,9 +212,11 @@ exact_residual r u row = pull_fraction r.stiffness.denominator (exact_load r row
 -- all lower ends, over 1
 abbrev pub lower_law : Law → ExactLaw
 lower_law (Linear offset) = linear
+lower_law (Oneway gap) = oneway gap.lo
 
 abbrev pub lower_offset : Law → ℤ
 lower_offset (Linear offset) = offset.lo
+lower_offset (Oneway gap) = pos 0
 
 abbrev pub lower_stiffness : Built → List Law → Stiffness
 lower_stiffness b laws =
@@ -221,9 +250,14 @@ pub record HoldNumbers (s : System) : Type 0 where
 abbrev pub LowerEndsAreRealisation : Type 0
 LowerEndsAreRealisation = (s : System) → HoldNumbers s → IsRealisation s (lower_ends s)
 
--- no load and no initial deformation
+-- no initial deformation, and no gap below 0
+abbrev pub IsSlack : Law → Type 0
+IsSlack (Linear offset) = offset ≡ nothing
+IsSlack (Oneway gap) = pos 0 ≤ℤ gap.lo
+
+-- no load, and no force without displacements
 pub record IsAtRest (s : System) : Type 0 where
-  pub no_offset : (k : ℕ) → k < length s.structure.members → law_of s.laws k ≡ Linear nothing
+  pub slack : (k : ℕ) → k < length s.structure.members → IsSlack (law_of s.laws k)
   pub no_load : (row : ℕ) → row < row_count s.structure → load_of s.loads row ≡ nothing
 
 -- zero displacements are an equilibrium of every realisation of a structure at rest

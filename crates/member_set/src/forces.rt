@@ -1,8 +1,9 @@
 ghost use Rattle.std.specs.Prelude.{◌≡◌, ℕ, ◌+◌, ◌*◌, ◌<◌, ◌≤◌, length, slice_index_or, ℤ, pos, ◌*ℤ◌, ◌<ℤ◌, IfOk};
 ghost use Rattle.flex_interval.specs.Fraction.{Within};
+ghost use Rattle.flex_interval.specs.Operations.{sub_of};
 ghost use Rattle.member_set.specs.Members.{start_of, IsModerate, shape_at, nothing};
-ghost use Rattle.member_set.specs.Realisation.{ExactMember, IsMemberWithin, displaced, exact_reach, exact_force, reach_fraction, force_fraction, fraction, IsOffsetWithin};
-ghost use Rattle.member_set.specs.Interval.{place_count, touched_row, reach_term, reach_of, law_force_of, points, intervals};
+ghost use Rattle.member_set.specs.Realisation.{ExactMember, IsMemberWithin, displaced, exact_reach, exact_force, reach_fraction, force_fraction, fraction, IsLawWithin, IsOffsetWithin, ExactLaw, start_in, past_start, stretch};
+ghost use Rattle.member_set.specs.Interval.{place_count, touched_row, reach_term, reach_of, counted_of, law_force_of, points, intervals};
 ghost use Rattle.int_laws.specs.Matrices.{Vector};
 
 use crate::members::{Law, Member};
@@ -97,14 +98,39 @@ pub fn law_force(m: &Member, law: &Law, x: Iv) -> Result<Iv, IvFault>
         IsOffsetWithin q law.now offset → Within x (reach_fraction q reach) →
         Within e (force_fraction q (exact_force q exact offset reach))) }
 {
-    flex_interval::mul(m.kappa, flex_interval::sub(x, start(law))?, 36)
+    flex_interval::mul(m.kappa, counted(law, past_start(law, x)?), 36)
+}
+
+/// By how much a reach is past where the force of a law begins, in units of 2^-56 m or rad.
+pub(crate) fn past_start(law: &Law, x: Iv) -> Result<Iv, IvFault>
+    ensures value { result ≡ sub_of x (start_of law.now) }
+    ensures within { IfOk result (λ e. (q reach offset : ℤ) (exact : ExactLaw) → pos 0 <ℤ q → IsLawWithin q law.now exact →
+        IsOffsetWithin q law.now offset → Within x (reach_fraction q reach) →
+        Within e (reach_fraction q (past_start q exact offset reach))) }
+{
+    flex_interval::sub(x, start(law))
 }
 
 /// The reach at which the force of a law begins.
 fn start(law: &Law) -> Iv
-    ensures { result ≡ start_of law.now }
+    ensures value { result ≡ start_of law.now }
+    ensures within { (q offset : ℤ) (exact : ExactLaw) → IsLawWithin q law.now exact → IsOffsetWithin q law.now offset →
+        Within result (fraction (start_in exact offset) q) }
 {
     match law {
         Law::Linear { offset } => *offset,
+        Law::Oneway { gap } => *gap,
+    }
+}
+
+/// What counts of a reach past the start: all of it, or nothing below 0.
+fn counted(law: &Law, past: Iv) -> Iv
+    ensures value { result ≡ counted_of law.now past }
+    ensures within { (q reach offset : ℤ) (exact : ExactLaw) → pos 0 <ℤ q → IsLawWithin q law.now exact →
+        Within past (reach_fraction q (past_start q exact offset reach)) → Within result (reach_fraction q (stretch q exact offset reach)) }
+{
+    match law {
+        Law::Linear { .. } => past,
+        Law::Oneway { .. } => flex_interval::max(flex_interval::point(0), past),
     }
 }

@@ -1,5 +1,6 @@
-ghost use Rattle.member_set.specs.Inclusion.{ReachHolds, ForcesHold, ResidualsHold, NumbersAreInRange, NodesSuffice};
+ghost use Rattle.member_set.specs.Inclusion.{ReachHolds, PastsHold, ForcesHold, ResidualsHold, NumbersAreInRange, NodesSuffice};
 ghost use Rattle.member_set.specs.Interval.{FaultsStay};
+ghost use Rattle.member_set.specs.States.{StaysBuilt, HasStiffnessUnder, NoStatesNoChange, LinearMembersTakePart};
 ghost use Rattle.member_set.specs.Realisation.{LawsKeepStretch, LinearIsEveryMember, LowerEndsAreRealisation, RestIsEquilibrium};
 
 /// What shows that the definition of an equilibrium is met: intervals that hold numbers have a realisation, and a structure
@@ -16,10 +17,11 @@ pub fn laws_keep_stretch()
     ensures every_member { LinearIsEveryMember }
 {}
 
-/// What the intervals of reach, force and residual hold, by their definitions: for displacements and bounds that no call has
+/// What the intervals of reach, state, force and residual hold, by their definitions: for displacements and bounds that no call has
 /// met. The members at a row's node are all that have a part in the row.
 pub fn intervals_hold()
     ensures reaches { ReachHolds }
+    ensures pasts { PastsHold }
     ensures forces { ForcesHold }
     ensures residuals { ResidualsHold }
     ensures in_range { NumbersAreInRange }
@@ -27,6 +29,14 @@ pub fn intervals_hold()
 {
     flex_interval::operations_hold();
 }
+
+/// What the structure under given states is: built like the structure, with the stiffness of the members that take part.
+pub fn states_select_members()
+    ensures built { StaysBuilt }
+    ensures stiffness { HasStiffnessUnder }
+    ensures no_states { NoStatesNoChange }
+    ensures linear { LinearMembersTakePart }
+{}
 
 /// A sum in turn that has met a fault keeps it.
 pub fn faults_stay()

@@ -20,6 +20,8 @@ pub struct Member {
 pub enum Law {
     /// In proportion to what is past the initial deformation, in units of 2^-56 m or rad.
     Linear { offset: Iv },
+    /// In proportion to what is past the gap, in units of 2^-56 m or rad; none before.
+    Oneway { gap: Iv },
 }
 
 /// An end of an element, where its stress is judged.

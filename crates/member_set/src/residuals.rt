@@ -32,7 +32,7 @@ pub fn member_force(m: &Member, law: &Law, u: &[i128]) -> Result<Iv, IvFault>
 }
 
 /// A force below the limit.
-fn limited(force: Iv) -> Result<Iv, IvFault>
+pub(crate) fn limited(force: Iv) -> Result<Iv, IvFault>
     ensures value { result ≡ limited_force force }
     ensures same { IfOk result (λ e. e ≡ force) }
 {

@@ -5,7 +5,8 @@ use Rattle.load_vectors.specs.Loads.{AreLoads}
 use Rattle.case_run.proofs.Sharing.{is_system}
 use Rattle.case_run.proofs.GivenStructure.{loads_given}
 use Rattle.case_run.proofs.GivenTurns.{turns_given}
-use Rattle.case_run.proofs.GivenBounds.{bounds_given}
+use Rattle.case_run.proofs.GivenBounds.{bounds_given, without_states}
+use Rattle.case_run.proofs.Matrices.{no_states_at_rest}
 use Rattle.case_run.proofs.Chained.{tells_also, tells_load, tells_turns, tells_bounds, case_no_loads, case_no_factor, case_no_turns, case_by_bounds, case_bounds, HasFactor, solved}
 use Rattle.case_run.proofs.cases.enclosure_of.Goals as goal
 
@@ -18,6 +19,9 @@ pub enclose-requires-clause-system : goal.enclose-requires-clause-system
 enclose-requires-clause-system c =
     let loads = subst (AreLoads c.args.m.now c.args.case.0) (sym c.deref-4.ensures.value) c.in_ok-loads.ensures.loads in
     is_system c.args.m.now c.args.case.0 c.args.shared.now.b _ _ c.requires.ready.structure (c.deref-3.ensures.value ∙ c.requires.ready.laws) loads
+
+pub enclose-requires-clause-states : goal.enclose-requires-clause-states
+enclose-requires-clause-states c = no_states_at_rest c.args.shared.now.b _ c.requires.ready.structure.linear (c.deref-3.ensures.value ∙ c.requires.ready.laws)
 
 pub returns-in_err-loads : goal.returns-in_err-loads
 returns-in_err-loads c =
@@ -51,7 +55,7 @@ returns-in_err-enclose c =
     let fits : FitsSigned w128 c.args.shared.now.lambda = search rules in
     let fault = err_from_is_err_and c.from_residual-in_err-enclose.result c.from_residual-in_err-enclose.ensures.1 in
     let found = rw (c.deref.ensures.value, c.requires.ready.laws, c.deref-2.ensures.value) at c.in_ok-u.ensures.ok in
-    let wide = rw (c.deref-3.ensures.value, c.requires.ready.laws, c.deref-4.ensures.value, c.deref-5.ensures.value, to_z-of_z fits) at c.in_err-enclose.ensures.wide in
+    let tells = rw (c.deref-3.ensures.value, c.requires.ready.laws, c.deref-4.ensures.value, c.deref-5.ensures.value, to_z-of_z fits) at c.in_err-enclose.ensures.fault in
     let loads = c.in_ok-loads.loads.items in
     let u = c.in_ok-u.u.items in
     let b = c.args.shared.now.b in
@@ -62,7 +66,7 @@ returns-in_err-enclose c =
     let has : HasFactor c.args.m.now p c.args.case.0 b loads c.in-Ok.factor = record { loaded = loads_given c.args.m.now c.args.case.0 loads c.in_ok-loads.ensures.loads; order = factor.0; factor = factor.1 } in
     let turned = turns_given (solved b loads c.in-Ok.factor) 8 u (record { ordered = fit.ordered; size = ap (λ (n : ℕ). 6 * n) fit.nodes_are }) found in
     tells_also _ _ _ (λ e is. case_by_bounds c.args.m.now p c.args.case.0 b c.args.shared.now.lambda loads c.in-Ok.factor u has turned ∙ is)
-    (tells_bounds _ u c.args.shared.now.lambda c.in_err-enclose.field-0.0 (λ is. wide (ap Err is))))
+    (tells_bounds _ u c.args.shared.now.lambda c.in_err-enclose.field-0.0 c.requires.ready.structure.linear tells))
 
 pub returns : goal.returns
 returns c =
@@ -77,4 +81,4 @@ returns c =
     let factor = rw c.in-Ok.is at unshifted in
     let has : HasFactor c.args.m.now p c.args.case.0 b loads c.in-Ok.factor = record { loaded = loads_given c.args.m.now c.args.case.0 loads c.in_ok-loads.ensures.loads; order = factor.0; factor = factor.1 } in
     let turned = turns_given (solved b loads c.in-Ok.factor) 8 u (record { ordered = fit.ordered; size = ap (λ (n : ℕ). 6 * n) fit.nodes_are }) found in
-    case_bounds c.args.m.now p c.args.case.0 b c.args.shared.now.lambda loads c.in-Ok.factor u _ has turned (bounds_given _ u c.args.shared.now.lambda _ bounds)
+    case_bounds c.args.m.now p c.args.case.0 b c.args.shared.now.lambda loads c.in-Ok.factor u _ has turned (bounds_given _ u c.args.shared.now.lambda _ (without_states _ u c.args.shared.now.lambda _ c.requires.ready.structure.linear bounds))

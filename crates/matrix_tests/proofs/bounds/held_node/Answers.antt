@@ -1,4 +1,4 @@
-use Rattle.std.proofs.Common.{◌≡◌, ℕ, zero, suc, ◌<◌, inl, ◌∙◌, sym, ap, subst, arith, refl, List, [], ◌∷◌, length, slice_index, get_or}
+use Rattle.std.proofs.Common.{◌≡◌, ℕ, zero, suc, ◌^◌, ◌<◌, ◌≤◌, inl, ◌∙◌, sym, ap, subst, arith, refl, List, [], ◌∷◌, length, slice_index, get_or}
 use Rattle.std.proofs.lemmas.Result.{IfOk-weaker}
 use Rattle.std.specs.Prelude.{All, AllPairs, Contains, ◌↔◌}
 use Rattle.std.proofs.lemmas.Grind.{get_or_default_zero}
@@ -26,33 +26,57 @@ at_touching members kappa numbers as_many count at_node zero k inside = (
 )
 at_touching members kappa numbers as_many count at_node (suc node) k inside = absurd (omega arith)
 
-one_node : (b : Built) (kappa : Ends) (numbers : List ℕ) → b.at ≡ numbers ∷ [] → length numbers ≡ length b.members →
+-- the numbers below a bound
+counted_contains : (numbers : List ℕ) (n : ℕ) → length numbers ≡ n → ((k : ℕ) → k < n → slice_index numbers k ≡ k) → (k : ℕ) → Contains numbers k ↔ (k < n)
+counted_contains numbers n as_many count k = (
+  λ found. omega (arith, found.1, found.2, as_many, get_or_default_zero numbers found.0 k found.1, count found.0 (omega (arith, found.1, as_many))),
+  λ below. (k, omega (arith, as_many), get_or_default_zero numbers k k (omega (arith, as_many)) ∙ count k below),
+)
+
+counted_rising : (numbers : List ℕ) (n : ℕ) → length numbers ≡ n → ((k : ℕ) → k < n → slice_index numbers k ≡ k) → AllPairs (λ x y. x < y) numbers
+counted_rising numbers n as_many count = at_rising numbers n as_many count 0
+
+one_node : (b : Built) (kappa : Ends) (numbers : List ℕ) (states : ℕ) → b.at ≡ numbers ∷ [] → length b.members ≡ 6 → states ≤ 6 →
+    length b.unilateral ≡ states → ((k : ℕ) → k < states → slice_index b.unilateral k ≡ k) → length numbers ≡ length b.members →
     ((k : ℕ) → k < length b.members → slice_index numbers k ≡ k) → All (λ m. (m.n1 ≡ 0) × (m.n2 ≡ 0) × (m.kappa ≡ kappa)) b.members → IsBuilt b
-one_node b kappa numbers at_is as_many count at_node =
+one_node b kappa numbers states at_is six few state_count state_is as_many count at_node =
     let one = ap (λ (xs : List (List ℕ)). length xs) at_is in
     record {
       numbered = omega (arith, one);
+      members_numbered = omega (arith, six);
       first_node = λ k inside. omega (arith, one, (at_node k no_member inside).0);
       second_node = λ k inside. omega (arith, one, (at_node k no_member inside).1);
       rising = λ node. subst (λ (xs : List (List ℕ)). AllPairs (λ x y. x < y) (get_or xs node [])) (sym at_is) (at_rising numbers (length b.members) as_many count node);
       touching = λ node k inside.
           subst (λ (xs : List (List ℕ)). Contains (get_or xs node []) k ↔ ((k < length b.members) × Touches (member_of b k) node)) (sym at_is)
           (at_touching b.members kappa numbers as_many count at_node node k (omega (arith, one)));
+      states_numbered = omega (arith, state_count, few);
+      states_rising = counted_rising b.unilateral states state_count state_is;
+      states_inside = λ number inside. omega (arith, six, few, state_count, inside, state_is number (omega (arith, state_count, inside)));
     }
 
 pub returns-clause-built : goal.returns-clause-built
 returns-clause-built c =
-    let six = c.in_ok-anchors.ensures.six in
+    let six = c.in_ok-members.ensures.six in
     let P : Built → Type 0 = λ b. IsBuilt b in
     IfOk-weaker c.one_node.result _ IsBuilt
     (λ b is.
-    subst P (sym is) (one_node _ c.args.kappa c.in_ok-counted.field-0.items refl
-    (omega (arith, six, c.in_ok-counted.ensures.0)) (λ k below. omega (arith, c.in_ok-counted.ensures.1 k (omega (arith, six)))) c.in_ok-anchors.ensures.anchors))
+    subst P (sym is) (one_node _ c.args.kappa c.in_ok-numbers.numbers.items c.args.states refl six c.requires.few
+    (omega (arith, c.in_ok-counted.ensures.0)) (λ k below. omega (arith, c.in_ok-counted.ensures.1 k (omega (arith, below))))
+    (omega (arith, six, c.in_ok-numbers.ensures.0)) (λ k below. omega (arith, c.in_ok-numbers.ensures.1 k (omega (arith, six)))) c.in_ok-members.ensures.anchors))
     c.one_node.ensures
 
 pub returns-clause-stiff : goal.returns-clause-stiff
 returns-clause-stiff c =
     let P : Built → Type 0 = λ b. AreStiff b in
     IfOk-weaker c.one_node.result _ AreStiff
-    (λ b is. subst P (sym is) (λ k inside. subst (λ (e : Ends). IsStiff e) (sym (c.in_ok-anchors.ensures.anchors k no_member inside).2) c.requires))
+    (λ b is. subst P (sym is) (λ k inside. subst (λ (e : Ends). IsStiff e) (sym (c.in_ok-members.ensures.anchors k no_member inside).2) c.requires.stiff))
+    c.one_node.ensures
+
+pub returns-clause-states : goal.returns-clause-states
+returns-clause-states c =
+    let P : Built → Type 0 = λ b. (k : ℕ) → Contains b.unilateral k ↔ (k < c.args.states) in
+    IfOk-weaker c.one_node.result _ P
+    (λ b is. subst P (sym is) (λ k. counted_contains c.in_ok-counted.field-0.items c.args.states (omega (arith, c.in_ok-counted.ensures.0))
+    (λ k below. omega (arith, c.in_ok-counted.ensures.1 k (omega (arith, below)))) k))
     c.one_node.ensures

@@ -1,6 +1,5 @@
-use Rattle.std.proofs.Common.{◌/◌, ◌<◌, arith}
-use Rattle.member_set.specs.Members.{built_nodes}
-use Rattle.member_set.proofs.InclusionLaws.{reach_holds, forces_hold, residuals_hold}
+use Rattle.std.proofs.Common.{◌/◌, arith}
+use Rattle.member_set.proofs.InclusionLaws.{reach_holds, pasts_hold, forces_hold, residuals_hold}
 use Rattle.member_set.proofs.Touching.{numbers_in_range, resistance_by_node}
 use Rattle.member_set.proofs.laws.intervals_hold.Goals as goal
 
@@ -9,6 +8,7 @@ returns c =
     let o = c.operations_hold.ensures in
     record {
       reaches = reach_holds o.sums o.products;
+      pasts = pasts_hold o.differences;
       forces = forces_hold o.sums o.differences o.products;
       residuals = residuals_hold o.differences o.products;
       in_range = λ b row t built inside below. numbers_in_range b built (row / 6) t (omega arith) below;

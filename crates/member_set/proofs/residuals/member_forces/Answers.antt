@@ -18,7 +18,7 @@ returns-in_err-forces-clause-fault c =
     let law_is = get_or_read_under c.args.laws.now c.loop-k.k _ c.index-laws-k.result no_law c.index-laws-k.is inside (sym c.requires.one_law_each) in
     let none : forces_of c.args.b.now c.args.laws.now c.args.u.now c.loop-k.k ≡ Err c.in_err-forces.field-0.0 =
     rw (← member_is, ← law_is) (sym c.in_err-forces.ensures.value) in
-    rw p.1 (residual-without_force c.args.b.now c.requires.built c.args.laws.now c.args.u.now c.loop-k.k _ inside none)
+    rw p.1 (residual-without_force c.args.b.now c.requires.built (forces_of c.args.b.now c.args.laws.now c.args.u.now) c.loop-k.k _ inside none)
 
 pub loop-k-preserved : goal.loop-k-preserved
 loop-k-preserved c =

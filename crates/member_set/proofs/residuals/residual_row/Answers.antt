@@ -1,4 +1,4 @@
-use Rattle.std.proofs.Common.{◌≡◌, List, ℕ, ◌+◌, ◌*◌, ◌/◌, ◌<◌, ◌≤◌, length, get_or, slice_index, ap, arith, sym, ◌∙◌, refl, ℤ, pos, ◌-ℤ◌, subst, add-one}
+use Rattle.std.proofs.Common.{◌≡◌, List, ℕ, ◌/◌, ◌<◌, length, get_or, slice_index, ap, arith, sym, ◌∙◌, refl, ℤ, pos, ◌-ℤ◌, subst, add-one}
 use Rattle.std.proofs.lemmas.Result.{err_from_is_err_and}
 use Rattle.std.proofs.lemmas.List.{get_or_read_under}
 use Rattle.int_laws.proofs.Sums.{int_sums}
@@ -6,21 +6,14 @@ use Rattle.member_set.specs.declared.members.Member.{Member}
 use Rattle.member_set.specs.declared.members.Law.{Law}
 use Rattle.member_set.specs.declared.members.Built.{Built}
 use Rattle.flex_interval.specs.Fraction.{Within}
-use Rattle.member_set.specs.Members.{nothing, no_member, no_law, IsBuilt, member_of, members_at, law_of, load_of, row_count, shape_at}
+use Rattle.member_set.specs.Members.{nothing, no_member, no_law, member_of, members_at, law_of, load_of, shape_at}
 use Rattle.member_set.specs.Realisation.{IsMemberWithin, IsOffsetWithin, displaced, force_in, exact_load, pull_fraction, fraction}
 use Rattle.member_set.specs.Interval.{forces_of, member_force_of}
 use Rattle.member_set.proofs.Fractions.{load_within, pull_taken}
 use Rattle.member_set.proofs.Rows.{nothing_is_zero}
-use Rattle.member_set.proofs.Touching.{ok_of, residual-next, residual-fault, residual-whole, resistance_by_node}
+use Rattle.member_set.proofs.Touching.{ok_of, rows_fit, residual-next, residual-fault, residual-whole, resistance_by_node}
 use Rattle.member_set.proofs.residuals.residual_row.Goals as goal
 use Rattle.member_set.proofs.residuals.residual_row.Goals.{After-less_member}
-
--- the nodes of a member have their six rows
-rows_fit : (b : Built) → IsBuilt b → (k : ℕ) → k < length b.members → (6 * (member_of b k).n1 + 6 ≤ row_count b) × (6 * (member_of b k).n2 + 6 ≤ row_count b)
-rows_fit b built k inside =
-    let first = built.first_node k inside in
-    let second = built.second_node k inside in
-    (omega arith, omega arith)
 
 pub less_member-requires-clause-first_node : goal.less_member-requires-clause-first_node
 less_member-requires-clause-first_node c =
