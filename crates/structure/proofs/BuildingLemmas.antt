@@ -1,5 +1,5 @@
 -- The structure of a model from its members.
-use Rattle.std.proofs.Common.{◌≡◌, ℕ, ◌*◌, ◌<◌, ◌≤◌, List, [], ◌∷◌, ◌++◌, length, length-append, get_or, All, sym, ap, ◌∙◌, subst, arith, ℤ, pos, Option, Some, None, Ok, Err}
+use Rattle.std.proofs.Common.{◌≡◌, ℕ, ◌*◌, ◌<◌, ◌≤◌, List, [], ◌∷◌, ◌++◌, length, length-append, get_or, All, sym, ap, subst, arith, ℤ, pos, Option, Some, None, Ok, Err}
 use Rattle.std.proofs.lemmas.Int.{ints}
 use Rattle.std.proofs.lemmas.List.Elements.{All-from_recursion, All-nil, All-append, All-head, All-tail}
 use Rattle.std.specs.List.{flat_map}
@@ -21,7 +21,6 @@ use Rattle.structure.specs.Stations.{stations_of}
 use Rattle.structure.specs.Sound.{IsSound, AreMembers}
 use Rattle.structure.specs.Structure.{element_members, model_members, IsStructureOf}
 use Rattle.structure.specs.Touching.{ListsTouching}
-use Rattle.structure.proofs.RestraintLaw.{all_linear}
 
 -- ---- the members of restraints
 
@@ -98,10 +97,9 @@ nodes_in_range m members are = λ k d inside. ((are.sound k d inside).first_node
 
 -- ---- the structure
 
-pub IsStructureOf-from : (m : Lists) (b : Built) → IsModel m → AreMembers m b.members → length b.at ≡ length m.nodes → ListsTouching b.members (length b.members) b.at → b.unilateral ≡ unilateral_of m → b.stations ≡ stations_of m → IsStructureOf m b
-IsStructureOf-from m b model are count lists unilateral stations =
+pub IsStructureOf-from : (m : Lists) (b : Built) → IsModel m → AreMembers m b.members → length b.at ≡ length m.nodes → ListsTouching b.members (length b.members) b.at → b.unilateral ≡ unilateral_of m → b.unilateral ≡ [] → b.stations ≡ stations_of m → IsStructureOf m b
+IsStructureOf-from m b model are count lists unilateral linear stations =
     let most_nodes = model.few.nodes in
-    let linear = unilateral ∙ all_linear m in
     record {
       members = are.value;
       nodes = count;

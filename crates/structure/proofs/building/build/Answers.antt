@@ -27,7 +27,7 @@ returns-clause-structure c =
     let are = subst (AreMembers c.args.m.now) (sym c.new.ensures) c.in_ok-members.ensures.members in
     let count = ap (λ (xs : List (List ℕ)). length xs) c.new-4.ensures ∙ c.in_ok-at.ensures.count ∙ ap length c.nodes.ensures.records in
     let lists = rw (← c.new-4.ensures, c.deref.ensures.value, ← c.new.ensures) at c.in_ok-at.ensures.lists in
-    IsStructureOf-from c.args.m.now _ c.nodes.ensures.model are count lists (c.new-2.ensures ∙ c.in_ok-unilateral.ensures) (c.new-3.ensures ∙ c.in_ok-stations.ensures.value)
+    IsStructureOf-from c.args.m.now _ c.nodes.ensures.model are count lists (c.new-2.ensures ∙ c.in_ok-unilateral.ensures) (c.new-2.ensures ∙ c.in_ok-unilateral.ensures ∙ all_linear c.args.m.now) (c.new-3.ensures ∙ c.in_ok-stations.ensures.value)
 
 pub returns-clause-stiff : goal.returns-clause-stiff
 returns-clause-stiff c =
