@@ -14,6 +14,10 @@ const LINEAR: Law = Law::Linear {
     offset: Iv { lo: 0, hi: 0 },
 };
 
+const TOUCHING: Law = Law::Oneway {
+    gap: Iv { lo: 0, hi: 0 },
+};
+
 fn anchor(freedom: usize, kappa: Iv) -> Member
     requires { freedom < 6 }
     ensures first { result.n1 ≡ 0 }
@@ -222,13 +226,12 @@ fn contact_states(rt: HostRuntime) -> Result<(), Fail> {
 // By one unit less it lies on neither side.
 #[test]
 fn radii_of_states(rt: HostRuntime) -> Result<(), Fail> {
-    let first = Law::Oneway { gap: point(0) };
     let kappa = point(1 << 20);
     let mut loads = [point(0); 6];
     loads[0] = point(256);
     loads[1] = point(1 << 10);
     let u = [1 << 24, 0, 0, 0, 0, 0];
-    let answer = enclosed(&rt, rt.alloc(), first, kappa, &loads, &u, 1 << 22)?;
+    let answer = enclosed(&rt, rt.alloc(), TOUCHING, kappa, &loads, &u, 1 << 22)?;
     assert!(rt; answer.closed.as_slice() == [true].as_slice());
     let other = (-512, 512);
     check_ends(
@@ -237,7 +240,7 @@ fn radii_of_states(rt: HostRuntime) -> Result<(), Fail> {
         &[(0, 768), other, other, other, other, other],
     );
     let less = [(1 << 24) - 1, 0, 0, 0, 0, 0];
-    let fault = enclosed(&rt, rt.alloc(), first, kappa, &loads, &less, 1 << 22).err();
+    let fault = enclosed(&rt, rt.alloc(), TOUCHING, kappa, &loads, &less, 1 << 22).err();
     assert!(rt; fault == Some(EncloseFault::State { number: 0 }));
     Ok(())
 }
