@@ -3,3 +3,5 @@ pub mod Direct
 pub mod Bend
 pub mod Straight
 pub mod Station
+pub mod Allowable
+pub mod Judgement

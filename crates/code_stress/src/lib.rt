@@ -2,9 +2,13 @@
 #![tactic(auto)]
 
 mod action;
+mod allowable;
 mod bend;
 mod direct;
+mod judgement;
 mod station;
 mod straight;
 
+pub use allowable::{expansion_allowable, occasional_allowable, sustained_allowable};
+pub use judgement::{Verdict, verdict_on};
 pub use station::{StationData, station_stress};

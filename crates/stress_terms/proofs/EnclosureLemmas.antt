@@ -159,6 +159,8 @@ stress_encloses axial square torsion bending direct normal shear total e a q t s
     let total_hi : total.hi ≤ℤ (e.hi *ℤ e.hi) = rw (by_one total.hi) at s.root_of_total.power_above in
     let total_lo : (e.lo *ℤ e.lo) ≤ℤ total.lo = rw (by_one total.lo) at s.root_of_total.power_below in
     record {
+      axial_defined = in_a.defined;
+      torsion_defined = in_t.defined;
       from_zero = s.root_of_total.nonnegative;
       at_most = λ b number less.
           let b_below = root_below q b square.hi bending.hi in_q.defined in_q.at_most square_hi bending_hi number less in

@@ -1,5 +1,5 @@
 -- The stress of a station, sqrt((|Sa| + Sb)^2 + 4 St^2) (ASME B31.3-2016, 319.4.4). Squares are compared, since a root need not be a fraction.
-use Rattle.std.specs.Prelude.{pos, ◌*ℤ◌, ◌≤ℤ◌, Result}
+use Rattle.std.specs.Prelude.{pos, ◌*ℤ◌, ◌≤ℤ◌, ◌<ℤ◌, Result}
 use Rattle.lists.specs.Results.{and_then}
 use Rattle.flex_interval.specs.Ends.{Ends}
 use Rattle.flex_interval.specs.Fraction.{Fraction, whole, plus, times}
@@ -18,6 +18,8 @@ combined_square a b t = plus (times (plus a b) (plus a b) 0) (times t t 0)
 -- e encloses the stress by |Sa|, Sb^2 and 2 |St|: with every b up to Sb the combined square is at most that of e's upper end, and with
 -- every b from Sb on at least that of its lower end
 pub record EnclosesStress (axial bending_square torsion : Fraction) (e : Ends) : Type 0 where
+  pub axial_defined : pos 0 <ℤ axial.den
+  pub torsion_defined : pos 0 <ℤ torsion.den
   pub from_zero : pos 0 ≤ℤ e.lo
   pub at_most : (b : Fraction) → IsNonnegative b → IsAtMost (times b b 0) bending_square → IsAtMost (combined_square axial b torsion) (whole (e.hi *ℤ e.hi))
   pub at_least : (b : Fraction) → IsNonnegative b → IsAtMost bending_square (times b b 0) → IsAtMost (whole (e.lo *ℤ e.lo)) (combined_square axial b torsion)

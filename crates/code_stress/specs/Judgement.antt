@@ -1,0 +1,26 @@
+-- The verdict on a station: its stress against its allowable. Squares are compared, as in the enclosure of a stress.
+use Rattle.std.specs.Prelude.{◌*ℤ◌, ◌<ℤ◌, int_le, int_lt, if◌then◌else◌}
+use Rattle.flex_interval.specs.Ends.{Ends}
+use Rattle.flex_interval.specs.Fraction.{Fraction, times}
+use Rattle.flex_interval.specs.Roots.{IsNonnegative}
+use Rattle.stress_terms.specs.Combined.{IsAtMost, combined_square}
+use Rattle.code_stress.specs.declared.judgement.Verdict.{Verdict}
+use Rattle.code_stress.specs.declared.judgement.Verdict.TheVariants.{Pass, Fail, Undecided}
+
+-- by the ends: wholly at most the allowable, wholly over it, or neither
+abbrev pub verdict_of : Ends → Ends → Verdict
+verdict_of stress allowable = if int_le stress.hi allowable.lo then Pass else (if int_lt allowable.hi stress.lo then Fail else Undecided)
+
+-- the stress by |Sa|, Sb^2 and 2 |St| is at most y
+abbrev pub IsStressAtMost : Fraction → Fraction → Fraction → Fraction → Type 0
+IsStressAtMost axial bending_square torsion y =
+    (b : Fraction) → IsNonnegative b → IsAtMost (times b b 0) bending_square → IsAtMost (combined_square axial b torsion) (times y y 0)
+
+-- x < y, for positive denominators
+abbrev pub IsLess : Fraction → Fraction → Type 0
+IsLess x y = (x.num *ℤ y.den) <ℤ (y.num *ℤ x.den)
+
+-- the stress is over y
+abbrev pub IsStressAbove : Fraction → Fraction → Fraction → Fraction → Type 0
+IsStressAbove axial bending_square torsion y =
+    (b : Fraction) → IsNonnegative b → IsAtMost bending_square (times b b 0) → IsLess (times y y 0) (combined_square axial b torsion)
