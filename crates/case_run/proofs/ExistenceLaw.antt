@@ -20,8 +20,8 @@ ordered : (e : Ends) (x : Fraction) → Within e x → e.lo ≤ℤ e.hi
 ordered e x within = le_of_mul x.den e.lo e.hi within.defined (omega (arith, int_sums, within.at_least, within.at_most))
 
 pub realisations_exist : LowerEndsAreRealisation → StructuresHoldNumbers → RealisationsExist
-realisations_exist lower_ends hold_numbers m b case loads structure encloses loaded enclosed =
-    let hold = hold_numbers m b structure encloses in
+realisations_exist lower_ends hold_numbers m b case loads structure encloses holds loaded enclosed =
+    let hold = hold_numbers m b structure encloses holds in
     lower_ends (system b (resting_laws b) loads)
     (record {
       stiffnesses = λ k inside. (hold k inside).stiffness;

@@ -7,7 +7,6 @@ use Rattle.std.proofs.lemmas.List.Elements.{All-drop, All-map, All-from_get_or}
 use Rattle.std.proofs.lemmas.List.FromFn.{length-map-range_with_len, get_or-map-range_with_len}
 use Rattle.std.specs.Prelude.{slice_index, option_map, nat_lt, int_lt}
 use Rattle.std.specs.Option.{option_map_or}
-use Rattle.std.specs.List.{flat_map}
 use Rattle.int_laws.specs.Matrices.{Entries}
 use Rattle.lists.specs.Listed.{listed}
 use Rattle.lists.specs.Order.{IsOrder}
@@ -33,9 +32,8 @@ use Rattle.certificate.specs.declared.bounds.Enclosure.{Enclosure}
 use Rattle.certificate.specs.Bounds.{BoundsAreLimited, HasLimitedEnds, bounds_around, bounds_fail, enclosure_of}
 use Rattle.certificate.specs.Checker.{margin_by, test_by, row_refused}
 use Rattle.bound_laws.specs.Definiteness.{PassedTestIsProof}
-use Rattle.structure.specs.Anchors.{HasAnchorsAlone, restraint_members}
 use Rattle.structure.specs.Elements.{element_at, members_of_element, element_member_count}
-use Rattle.structure.specs.Structure.{Members, ModelsHaveTheirMembers, element_members, model_members, with_element, then_members, linear_structure, structure_of}
+use Rattle.structure.specs.Structure.{Members, ModelsHaveTheirMembers, element_members, model_members, with_element, then_members, structure_with, structure_of}
 use Rattle.case_run.specs.Answers.{Reason, element_reason, matrix_reason, breakdown_reason, margin_reason, load_reason, turns_reason, bounds_reason, factor_at, margin_at, margin_of, Base, base_of, enclosure_in, answer_with, answer_of, answers_of}
 use Rattle.case_run.specs.Causes.{Plan, resting_laws}
 use Rattle.case_run.specs.Certified.{bounds_of, last_place, shift_of}
@@ -91,24 +89,24 @@ fault_before (Err k) more number e = e
 -- a wide element is one of the model's
 wide_element : (m : Lists) (number : ℕ) → model_members m ≡ Err number → number < length m.elements
 unfolding model_members
-wide_element m number e = wide_below m (length m.elements) number (fault_before (element_members m (length m.elements)) (flat_map restraint_members m.restraints) number e)
+wide_element m number e = wide_below m (length m.elements) number (fault_before (element_members m (length m.elements)) _ number e)
 
-abbrev between : ℕ → Members → Result Built ℕ
-between nodes made = and_then made (λ members. Ok (linear_structure nodes members))
+abbrev between : Lists → Members → Result Built ℕ
+between m made = and_then made (λ members. Ok (structure_with m members))
 
-no_structure : (nodes : ℕ) (made : Members) (number : ℕ) → between nodes made ≡ Err number → made ≡ Err number
-no_structure nodes (Ok members) number is = absurd (cc)
-no_structure nodes (Err k) number is = let same : k ≡ number = cc in ap (λ x. Err x) same
+no_structure : (m : Lists) (made : Members) (number : ℕ) → between m made ≡ Err number → made ≡ Err number
+no_structure m (Ok members) number is = absurd (cc)
+no_structure m (Err k) number is = let same : k ≡ number = cc in ap (λ x. Err x) same
 
 abbrev made_of : List Member → Members
 made_of members = Ok members
 
 -- it has the members of the model, and its nodes
-a_structure : (nodes : ℕ) (made : Members) (b : Built) → between nodes made ≡ Ok b → (made ≡ Ok b.members) × (built_nodes b ≡ nodes)
-a_structure nodes (Ok members) b is =
-    let same : linear_structure nodes members ≡ b = cc in
-    subst (λ (c : Built). (made_of members ≡ Ok c.members) × (built_nodes c ≡ nodes)) same (refl, length-map-range_with_len _ 0 nodes)
-a_structure nodes (Err k) b is = absurd (cc)
+a_structure : (m : Lists) (made : Members) (b : Built) → between m made ≡ Ok b → (made ≡ Ok b.members) × (built_nodes b ≡ length m.nodes)
+a_structure m (Ok members) b is =
+    let same : structure_with m members ≡ b = cc in
+    subst (λ (c : Built). (made_of members ≡ Ok c.members) × (built_nodes c ≡ length m.nodes)) same (refl, length-map-range_with_len _ 0 (length m.nodes))
+a_structure m (Err k) b is = absurd (cc)
 
 -- ---- causes
 
@@ -117,7 +115,7 @@ abbrev FitsReason : Lists → Reason → Type 0
 FitsReason m reason = FitsModel m (Uncertified reason.cause reason.guess)
 
 element_fits : (m : Lists) (number : ℕ) → structure_of m ≡ Err number → FitsReason m (element_reason number)
-element_fits m number is = (wide_element m number (no_structure (length m.nodes) (model_members m) number is), refl)
+element_fits m number is = (wide_element m number (no_structure m (model_members m) number is), refl)
 
 -- the node and the freedom of a row
 row_inside : (row nodes : ℕ) → row < 6 * nodes → (row / 6 < nodes) × (row % 6 < 6)
@@ -126,7 +124,7 @@ row_inside row nodes inside = (omega (arith, inside), omega arith)
 matrix_fits : (m : Lists) (b : Built) (row : ℕ) → structure_of m ≡ Ok b → matrices_of b ≡ Err row → FitsReason m (matrix_reason row)
 matrix_fits m b row structure is =
     let inside = found_below (row_count b) _ row (found_error (wide_row b) _ row is) in
-    let nodes = (a_structure (length m.nodes) (model_members m) b structure).1 in
+    let nodes = (a_structure m (model_members m) b structure).1 in
     (row_inside row (length m.nodes) (omega (arith, inside, nodes)), refl)
 
 load_fits : (m : Lists) (case row : ℕ) → loads_of m case ≡ Err row → FitsReason m (load_reason row)
@@ -250,17 +248,17 @@ turned p u v is =
 candidate : (p : Problem) (n : ℕ) (u : List ℤ) → turns_of p (suc n) ≡ Ok u → (length u ≡ size_of p) × IsModerate u
 candidate p n u is = let before = value_before (turns_of p n) (turn_of p) u is in turned p before.0 u before.2
 
-certified_fits : PassedTestIsProof → BoundsAreLimited → ModelsHaveTheirMembers → (m : Lists) (p : Plan) (case : ℕ) (e : Enclosure) → HasAnchorsAlone m →
+certified_fits : PassedTestIsProof → BoundsAreLimited → ModelsHaveTheirMembers → (m : Lists) (p : Plan) (case : ℕ) (e : Enclosure) →
     0 < length p.order → and_then (base_of m p) (enclosure_in m p case) ≡ Ok e → FitsModel m (answer_with (element_member_count m) (Ok e))
-certified_fits passed_test limits counts m p case e anchors some given =
+certified_fits passed_test limits counts m p case e some given =
     let chain = value_before (base_of m p) (enclosure_in m p case) e given in
     let shared = chain.0 in
     let is = is_base m p shared chain.1 in
     let around = are_around m p case shared e chain.2 in
     let b = shared.structure in
     let s = system b (resting_laws b) around.loads in
-    let structure = a_structure (length m.nodes) (model_members m) b is.structure in
-    let members = counts m b.members anchors structure.0 in
+    let structure = a_structure m (model_members m) b is.structure in
+    let members = counts m b.members structure.0 in
     let margin = margin_definite passed_test p is.middles is.radii shared.lambda some is.margin in
     let moved = candidate (problem s p.order around.factor) 7 around.u around.turned in
     let limited = limits s around.u shared.lambda e margin.positive moved.0 moved.1 around.bounds in
@@ -281,22 +279,22 @@ with_fits : (m : Lists) (first : ℕ) (o : Result Enclosure Reason) → ((e : En
 with_fits m first (Ok e) bounds cause = bounds e refl
 with_fits m first (Err reason) bounds cause = cause reason refl
 
-answer_fits : PassedTestIsProof → BoundsAreLimited → ModelsHaveTheirMembers → (m : Lists) (p : Plan) (case : ℕ) → HasAnchorsAlone m →
+answer_fits : PassedTestIsProof → BoundsAreLimited → ModelsHaveTheirMembers → (m : Lists) (p : Plan) (case : ℕ) →
     0 < length p.order → IsOrder p.order → length p.order ≡ length m.nodes → FitsModel m (answer_of m p case)
-answer_fits passed_test limits counts m p case anchors some ordered count =
+answer_fits passed_test limits counts m p case some ordered count =
     with_fits m (element_member_count m) (and_then (base_of m p) (enclosure_in m p case))
-    (λ e is. certified_fits passed_test limits counts m p case e anchors some is)
+    (λ e is. certified_fits passed_test limits counts m p case e some is)
     (error_before (FitsReason m) (base_of m p) (enclosure_in m p case) (base_fits m p ordered count)
     (λ shared reason _. own_fits m p case shared ordered count reason))
 
 -- the answers of the cases of a model are answers of it
-pub answers_fit : PassedTestIsProof → BoundsAreLimited → ModelsHaveTheirMembers → (m : Lists) (p : Plan) → HasAnchorsAlone m →
+pub answers_fit : PassedTestIsProof → BoundsAreLimited → ModelsHaveTheirMembers → (m : Lists) (p : Plan) →
     0 < length p.order → IsOrder p.order → length p.order ≡ length m.nodes → AreAnswersOf m (answers_of m p)
-answers_fit passed_test limits counts m p anchors some ordered count = record {
+answers_fit passed_test limits counts m p some ordered count = record {
   one_each = length-map-range_with_len (answer_of m p) 0 (length m.cases);
   fit = All-from_get_or (FitsModel m) (answers_of m p) (Uncertified turns_reason.cause [])
       (λ case inside.
       let below : case < length m.cases = omega (arith, inside, length-map-range_with_len (answer_of m p) 0 (length m.cases)) in
       subst (FitsModel m) (sym (get_or-map-range_with_len (answer_of m p) 0 (length m.cases) case case _ below (omega arith)))
-      (answer_fits passed_test limits counts m p case anchors some ordered count));
+      (answer_fits passed_test limits counts m p case some ordered count));
 }

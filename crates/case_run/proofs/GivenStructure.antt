@@ -20,7 +20,7 @@ use Rattle.member_set.specs.declared.members.Built.{Built}
 use Rattle.member_set.specs.Interval.{Outcome, found, in_turn}
 use Rattle.member_set.specs.Members.{nothing, shape_at, no_member, member_of, members_at, Touches, touches, built_nodes, row_count, IsBuilt}
 use Rattle.model_types.specs.Lists.{Lists}
-use Rattle.structure.specs.Structure.{IsStructureOf, Members, model_members, touching_numbers, linear_structure, structure_of}
+use Rattle.structure.specs.Structure.{IsStructureOf, Members, model_members, touching_numbers, structure_with, structure_of}
 use Rattle.load_vectors.specs.Loads.{AreLoads, IsFirstWideLoad, row_load, loads_of}
 use Rattle.sym_blocks.specs.Matrix.{Matrix, node_count as nodes_of, entry, IsSymmetricByBlocks}
 use Rattle.assembly.specs.Stiffness.{AreAssembled, IsFirstWide, stiffness_at, entry_term, entry_sum, upper_entry, limited_entry, middle, radius, is_wide, wide_row, matrices_of}
@@ -116,11 +116,11 @@ pub structure_given : (m : Lists) (b : Built) → IsStructureOf m b → structur
 structure_given m b is =
     let lists = listed-is [] b.at (length m.nodes) (touching_numbers b.members) is.nodes
     (λ node inside. at_node b node is.built (omega (arith, is.nodes))) in
-    ap (λ (o : Members). and_then o (λ members. Ok (linear_structure (length m.nodes) members))) is.members
-    ∙ ap (λ (x : Built). Ok x) (sym (built_same b (linear_structure (length m.nodes) b.members) refl is.linear is.no_stations lists))
+    ap (λ (o : Members). and_then o (λ members. Ok (structure_with m members))) is.members
+    ∙ ap (λ (x : Built). Ok x) (sym (built_same b (structure_with m b.members) refl is.unilateral is.stations lists))
 
 pub structure_broken : (m : Lists) (number : ℕ) → model_members m ≡ Err number → structure_of m ≡ Err number
-structure_broken m number wide = ap (λ (o : Members). and_then o (λ members. Ok (linear_structure (length m.nodes) members))) wide
+structure_broken m number wide = ap (λ (o : Members). and_then o (λ members. Ok (structure_with m members))) wide
 
 -- ---- the loads
 load_found : (o : Outcome) (e : Ends) → o ≡ Ok e → is_err o ≡ false

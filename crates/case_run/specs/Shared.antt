@@ -1,5 +1,5 @@
 -- What all cases of a model share.
-use Rattle.std.specs.Prelude.{◌≡◌, IfOk, MatchResult, pos, ◌≤ℤ◌, Ok, Err}
+use Rattle.std.specs.Prelude.{◌≡◌, [], IfOk, MatchResult, pos, ◌≤ℤ◌, Ok, Err}
 use Rattle.model_types.specs.Lists.{Lists}
 use Rattle.structure.specs.Structure.{IsStructureOf}
 use Rattle.member_set.specs.Members.{AreStiff}
@@ -14,6 +14,7 @@ use Rattle.case_run.specs.Steps.{IsFactorFor}
 pub record IsReady (m : Lists) (s : Shared) : Type 0 where
   pub structure : IsStructureOf m s.b
   pub stiff : AreStiff s.b
+  pub linear : s.b.unilateral ≡ []
   pub laws : s.laws.items ≡ resting_laws s.b
   pub positive : pos 1 ≤ℤ s.lambda
   pub factor : IfOk s.factor (IsFactorFor s.b)

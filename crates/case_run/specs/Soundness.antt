@@ -7,7 +7,7 @@ use Rattle.member_set.specs.Realisation.{IsRealisation, lower_ends}
 use Rattle.model_types.specs.Lists.{Lists}
 use Rattle.model_types.specs.Rules.{IsModel}
 use Rattle.structure.specs.Structure.{IsStructureOf}
-use Rattle.structure.specs.Enclosure.{EnclosesElements}
+use Rattle.structure.specs.Enclosure.{EnclosesElements, EnclosesRestraints}
 use Rattle.load_vectors.specs.Loads.{AreLoads, EncloseLoads}
 use Rattle.case_run.specs.Causes.{Plan, resting_laws}
 use Rattle.case_run.specs.Answers.{answer_of, answers_of}
@@ -23,8 +23,8 @@ abbrev pub AnswersHold : Type 0
 AnswersHold = (m : Lists) (p : Plan) → IsModel m → length p.order ≡ length m.nodes → HoldAlways m (answers_of m p)
 
 -- the lower ends of a model's structure and of a case's loads are a realisation, where the members hold the exact straights
--- and the loads the exact loads
+-- and restraints, and the loads the exact loads
 abbrev pub RealisationsExist : Type 0
 RealisationsExist = (m : Lists) (b : Built) (case : ℕ) (loads : List Ends) →
-    IsStructureOf m b → EnclosesElements m b → AreLoads m case loads → EncloseLoads m case loads →
+    IsStructureOf m b → EnclosesElements m b → EnclosesRestraints m b → AreLoads m case loads → EncloseLoads m case loads →
     IsRealisation (system b (resting_laws b) loads) (lower_ends (system b (resting_laws b) loads))

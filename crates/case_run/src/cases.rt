@@ -10,7 +10,6 @@ ghost use Rattle.elimination.specs.Elimination.{AreParents};
 ghost use Rattle.lists.specs.Order.{IsOrder};
 ghost use Rattle.load_vectors.specs.Loads.{HasForcesAlone, case_at};
 ghost use Rattle.model_types.specs.Fits.{AreAnswersOf};
-ghost use Rattle.structure.specs.Anchors.{HasAnchorsAlone};
 ghost use Rattle.structure.specs.Elements.{element_member_count};
 
 use crate::fault::CaseFault;
@@ -31,7 +30,6 @@ pub fn answers(
     order: &[u32],
     parents: &[Option<u32>],
 ) -> Result<Vec<CaseAnswer>, NoMemory>
-    requires anchors { HasAnchorsAlone m.now }
     requires forces_alone { (case : ℕ) → case < length m.now.cases → HasForcesAlone (case_at m.now case) }
     requires order { IsOrder order.now }
     requires nodes { length order.now ≡ length m.now.nodes }

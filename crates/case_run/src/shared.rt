@@ -7,7 +7,6 @@ ghost use Rattle.case_run.specs.Faults.{reason_told};
 ghost use Rattle.case_run.specs.Causes.{plan};
 ghost use Rattle.case_run.specs.Shared.{IsReady, HasUnshifted};
 ghost use Rattle.case_run.specs.Steps.{IsFactorable, IsPlan};
-ghost use Rattle.structure.specs.Anchors.{HasAnchorsAlone};
 
 use crate::fault::CaseFault;
 use crate::margin::margin_of;
@@ -38,7 +37,6 @@ pub(crate) fn share(
     order: &[u32],
     parents: &[Option<u32>],
 ) -> Result<Shared, CaseFault>
-    requires anchors { HasAnchorsAlone m.now }
     requires nodes { length order.now ≡ length m.now.nodes }
     requires plan { IsPlan order.now parents.now }
     ensures ready { IfOk result (IsReady m.now) }

@@ -8,7 +8,6 @@ ghost use Rattle.case_run.specs.Causes.{plan, resting_laws};
 ghost use Rattle.factor_data.specs.Columns.{HasDiagonal, factor_entry};
 ghost use Rattle.case_run.specs.Steps.{IsFactorable, IsRadiusMatrix};
 ghost use Rattle.lists.specs.Results.{named, Gives};
-ghost use Rattle.structure.specs.Anchors.{HasAnchorsAlone};
 ghost use Rattle.structure.specs.Structure.{IsStructureOf, structure_of};
 ghost use Rattle.case_run.specs.Answers.{element_reason, matrix_reason, factor_at};
 ghost use Rattle.case_run.specs.Faults.{reason_told};
@@ -24,12 +23,12 @@ use std::alloc::{AllocError, Global};
 use structure::build;
 use sym_blocks::SymBlocks;
 
-/// The structure of a model whose restraints are anchors.
+/// The structure of a model.
 pub(crate) fn structure_of(alloc: Global, m: &Model) -> Result<Built, CaseFault>
-    requires anchors { HasAnchorsAlone m.now }
     ensures given { Gives (λ b. b) reason_told (named element_reason (structure_of m.now)) result }
     ensures structure { IfOk result (IsStructureOf m.now) }
     ensures stiff { IfOk result AreStiff }
+    ensures linear { IfOk result (λ b. b.unilateral ≡ []) }
 {
     Ok(build(alloc, m)?)
 }

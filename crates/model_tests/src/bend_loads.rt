@@ -15,7 +15,7 @@ use crate::bends::{
     LONG_WAY as LONG, SHORT_WAY as SHORT, flexible_quarter, long_quarter, quarter_members,
     stiff_quarter,
 };
-use crate::makers::{check_anchors, model};
+use crate::makers::model;
 use crate::polygon::POLYGON;
 use flex_interval::{Iv, IvFault, add, div, mul, point, ratio};
 use member_pairs::{cross, difference, negative, stretched};
@@ -309,7 +309,6 @@ fn work_on_chain(
 #[test]
 fn sixty_four_straights(rt: HostRuntime) {
     let model = model(&rt, rt.alloc(), &[POLYGON]);
-    check_anchors(&rt, &model);
     let built = build(rt.alloc(), &model).expect(&rt, "a structure");
     for row in &ROWS {
         let work = work_on_chain(&rt, built.members.as_slice(), model.nodes(), row);

@@ -3,7 +3,7 @@ ghost use Rattle.std.specs.Prelude.{◌≡◌, ◌<◌, length};
 ghost use Rattle.elimination.specs.Elimination.{AreParents};
 ghost use Rattle.lists.specs.Order.{IsOrder};
 
-use crate::makers::{check_all_forces, check_anchors, model};
+use crate::makers::{check_all_forces, model};
 use case_run::answers;
 use model_types::{Bounds, CaseAnswer, Cause, Model, NodeId};
 use std::alloc::Global;
@@ -38,7 +38,6 @@ force great b 0 0 1000000000000 0 0 0
 // The answers of a model of two nodes.
 fn answers_of(rt: &impl Abort, alloc: Global, m: &Model) -> Vec<CaseAnswer> {
     assert!(rt; m.nodes().len() == 2);
-    check_anchors(rt, m);
     check_all_forces(rt, m);
     answers(alloc, m, &order(), &parents()).expect(rt, "memory")
 }

@@ -1,10 +1,9 @@
 //! Models of text, and what the calls under test require of them.
-ghost use Rattle.std.specs.Prelude.{ℕ, ◌<◌, IsTrue, length};
+ghost use Rattle.std.specs.Prelude.{ℕ, ◌<◌, length};
 ghost use Rattle.load_vectors.specs.Loads.{HasForcesAlone, case_at};
-ghost use Rattle.structure.specs.Anchors.{HasAnchorsAlone, IsAnchor};
 
 use model_text::read;
-use model_types::{Model, RestraintKind};
+use model_types::Model;
 use std::alloc::Global;
 use std::process::Abort;
 
@@ -21,21 +20,6 @@ pub(crate) fn model(rt: &impl Abort, alloc: Global, lines: &[&str]) -> Model {
         text.push_str(line).expect(rt, "memory");
     }
     read(alloc, text.as_bytes()).expect(rt, "a model")
-}
-
-// There are no restraints but anchors.
-pub(crate) fn check_anchors(rt: &impl Abort, m: &Model)
-    ensures { HasAnchorsAlone m.now }
-{
-    for restraint in m.restraints() {
-        assert!(rt; is_anchor(restraint.kind));
-    }
-}
-
-fn is_anchor(kind: RestraintKind) -> bool
-    ensures { IsTrue result → IsAnchor kind }
-{
-    matches!(kind, RestraintKind::Anchor { .. })
 }
 
 // Nothing but forces acts in the case.

@@ -1,5 +1,5 @@
 //! A pipe of three straights between two anchors: its members by hand, and the first of two straights that are too stiff.
-use crate::makers::{check_anchors, model};
+use crate::makers::model;
 use flex_interval::Iv;
 use member_set::{Built, Member};
 use model_types::ElementId;
@@ -17,7 +17,6 @@ anchor B d 5 -
 
 fn built(rt: &impl Abort, alloc: Global, nodes: &str) -> Result<Built, BuildFault> {
     let m = model(rt, alloc, &[nodes, PIPE]);
-    check_anchors(rt, &m);
     build(alloc, &m)
 }
 
@@ -61,7 +60,7 @@ fn three_straights(rt: HostRuntime) {
 
 fn counts(rt: &impl Abort, built: &Built) {
     assert!(rt; built.members.as_slice().len() == 36 && built.at.as_slice().len() == 4);
-    assert!(rt; built.unilateral.as_slice().is_empty() && built.stations.as_slice().is_empty());
+    assert!(rt; built.unilateral.as_slice().is_empty() && built.stations.as_slice().len() == 6);
 }
 
 fn touches(rt: &impl Abort, built: &Built) {

@@ -18,7 +18,6 @@ use Rattle.model_types.specs.declared.records.Case.{Case}
 use Rattle.model_types.specs.declared.records.Restraint.{Restraint}
 use Rattle.report.specs.Report.{Word, answer_lines, bounds_at, case_lines, end_lines, head_lines, loads_before, load_count_of, node_bounds, node_lines, report_of, restraint_bounds, restraint_lines}
 use Rattle.report.specs.Rounding.{PrintedHolds}
-use Rattle.structure.specs.Anchors.{HasAnchorsAlone}
 use Rattle.text_words.specs.Fields.{line}
 use Rattle.pipeflex_top.specs.Told.{ArePaired, IsCaseText, certified, uncertified, IsReportText, node_displacements, restraint_loads}
 use Rattle.model_types.specs.MemberCounts.{restraint_member_count, restraints_member_count}
@@ -42,29 +41,29 @@ load_inside (r ∷ restraints) n f inside few =
     let own : load_count_of (r ∷ restraints) n ≡ count (get_or (r ∷ restraints) n r) = get_or-map count (r ∷ restraints) n r 0 inside in
     omega (arith, own, few, sum_by_more_le count (r ∷ restraints) n r inside)
 
-restraints_paired : PrintedHolds → ModelsHaveTheirMembers → (m : Lists) (case : ℕ) (u loads : List Bounds) → HasAnchorsAlone m
+restraints_paired : PrintedHolds → ModelsHaveTheirMembers → (m : Lists) (case : ℕ) (u loads : List Bounds)
     → OfEquilibria m case (λ r exact. AreWithin r exact (element_member_count m) u loads) → ArePaired m case (restraint_loads m) (restraint_bounds m.restraints loads)
-restraints_paired holds counts m case u loads anchors always = λ b case_loads r exact structure loaded realised balanced n f restraint own.
+restraints_paired holds counts m case u loads always = λ b case_loads r exact structure loaded realised balanced n f restraint own.
     let within = always b case_loads r exact structure loaded realised balanced in
     let k = loads_before m.restraints n + f in
     let among : k < restraints_member_count m.restraints = load_inside m.restraints n f restraint own in
-    let members = counts m b.members anchors structure.members in
+    let members = counts m b.members structure.members in
     let inside : element_member_count m + k < r.stiffness.members = omega (arith, realised.stiffness.all_members, members, among) in
     holds (pos 1000) (pos (2 ^ 40)) (omega arith) (omega arith) (bounds_at loads k) (force_fraction r.stiffness.denominator (force_in r exact (element_member_count m + k))) (within.load k inside)
 
 -- the lines of an answer are the text of its case
-answer_told : PrintedHolds → ModelsHaveTheirMembers → (m : Lists) (case : ℕ) (a : CaseAnswer) → HasAnchorsAlone m → HoldsAlways m case a
+answer_told : PrintedHolds → ModelsHaveTheirMembers → (m : Lists) (case : ℕ) (a : CaseAnswer) → HoldsAlways m case a
     → IsCaseText m case (answer_lines m (case_at m case) a)
-answer_told holds counts m case (Certified u loads states) anchors always =
+answer_told holds counts m case (Certified u loads states) always =
     let last = restraint_lines m.restraints loads in
     certified (node_lines m.nodes u ++ last) (
       node_bounds u,
       last,
       refl,
       nodes_paired holds m case u loads always,
-      (restraint_bounds m.restraints loads, [], sym (append-nil last), restraints_paired holds counts m case u loads anchors always, refl),
+      (restraint_bounds m.restraints loads, [], sym (append-nil last), restraints_paired holds counts m case u loads always, refl),
     )
-answer_told holds counts m case (Uncertified cause guess) anchors always = uncertified cause guess
+answer_told holds counts m case (Uncertified cause guess) always = uncertified cause guess
 
 -- ---- the cases, one after another
 
@@ -91,9 +90,9 @@ get_or-texts m (x ∷ cases) (y ∷ answers) zero c a same inside = refl
 get_or-texts m (x ∷ cases) (y ∷ answers) (suc case) c a same inside = get_or-texts m cases answers case c a (omega (arith, same)) (omega (arith, inside))
 
 -- the report of answers that hold tells what holds
-pub report_told : PrintedHolds → ModelsHaveTheirMembers → (m : Lists) (answers : List CaseAnswer) (output : List ℕ) → HasAnchorsAlone m
+pub report_told : PrintedHolds → ModelsHaveTheirMembers → (m : Lists) (answers : List CaseAnswer) (output : List ℕ)
     → length answers ≡ length m.cases → HoldAlways m answers → output ≡ report_of m answers → IsReportText m output
-report_told holds counts m answers output anchors one_each always written =
+report_told holds counts m answers output one_each always written =
     let none : CaseAnswer = Uncertified causes.Turns [] in
     record {
       cases = texts m m.cases answers;
@@ -101,6 +100,6 @@ report_told holds counts m answers output anchors one_each always written =
       told = λ case inside.
           let a = get_or answers case none in
           let is = slice_get-get_or answers case none (omega (arith, one_each, inside)) in
-          rw (get_or-texts m m.cases answers case no_case none one_each inside) (answer_told holds counts m case a anchors (always case a is));
+          rw (get_or-texts m m.cases answers case no_case none one_each inside) (answer_told holds counts m case a (always case a is));
       written = written ∙ ap (λ lines. flat_map line (head_lines m ++ lines ++ end_lines)) (texts_joined m m.cases answers);
     }

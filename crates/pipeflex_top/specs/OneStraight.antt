@@ -1,9 +1,10 @@
 -- Which models can be analysed: one straight along an axis, held by anchors, in one case of forces.
-use Rattle.std.specs.Prelude.{◌≡◌, ◌≢◌, ◌⊎◌, ◌≤◌, length}
+use Rattle.std.specs.Prelude.{◌≡◌, ◌≢◌, ◌⊎◌, ◌≤◌, length, ⊤, All}
 use Rattle.load_vectors.specs.Loads.{HasForcesAlone, case_at}
 use Rattle.model_types.specs.Lists.{Lists}
 use Rattle.model_types.specs.declared.records.Node.{Node}
-use Rattle.structure.specs.Anchors.{HasAnchorsAlone}
+use Rattle.model_types.specs.declared.records.RestraintKind.{RestraintKind}
+use Rattle.model_types.specs.declared.records.RestraintKind.TheVariants.{Anchor, Linear, Twist}
 use Rattle.structure.specs.Elements.{element_at, from_of, to_of}
 
 -- two nodes, one element, one or two restraints, one case and at most one force
@@ -25,6 +26,16 @@ DifferInOne a b =
 -- the first element runs along an axis
 abbrev pub IsAlongAnAxis : Lists → Type 0
 IsAlongAnAxis m = DifferInOne (from_of m (element_at m 0)) (to_of m (element_at m 0))
+
+-- a restraint is an anchor
+abbrev pub IsAnchor : RestraintKind → Type 0
+IsAnchor (Anchor kt kr) = ⊤
+IsAnchor (Linear dx dy dz k) = ⊥
+IsAnchor (Twist dx dy dz k) = ⊥
+
+-- the model has no restraints but anchors
+abbrev pub HasAnchorsAlone : Lists → Type 0
+HasAnchorsAlone m = All (λ r. IsAnchor r.kind) m.restraints
 
 -- one straight along an axis, no restraints but anchors, and nothing but forces in its case
 pub record IsOneStraight (m : Lists) : Type 0 where

@@ -2,8 +2,7 @@
 ghost use Rattle.std.specs.Prelude.{◌≡◌, ◌↔◌, ◌<◌, IsTrue, length};
 ghost use Rattle.std.specs.List.{slice_index_or};
 ghost use Rattle.load_vectors.specs.Loads.{HasForcesAlone, case_at};
-ghost use Rattle.pipeflex_top.specs.OneStraight.{DifferInOne, HasFewRecords, IsAlongAnAxis, IsOneStraight};
-ghost use Rattle.structure.specs.Anchors.{HasAnchorsAlone, IsAnchor};
+ghost use Rattle.pipeflex_top.specs.OneStraight.{DifferInOne, HasAnchorsAlone, HasFewRecords, IsAlongAnAxis, IsAnchor, IsOneStraight};
 ghost use Rattle.structure.specs.Elements.{no_node};
 
 use model_types::{Case, Model, Node, NodeId, RestraintKind};

@@ -1,45 +1,60 @@
 -- The structure of a model from its members.
-use Rattle.std.proofs.Common.{◌≡◌, ℕ, ◌*◌, ◌^◌, ◌<◌, ◌≤◌, List, [], ◌∷◌, ◌++◌, length, length-append, get_or, All, sym, subst, arith, ℤ, pos, ◌*ℤ◌, ◌≤ℤ◌, ◌<ℤ◌, Option, Some, None, Ok, Err}
+use Rattle.std.proofs.Common.{◌≡◌, ℕ, ◌*◌, ◌<◌, ◌≤◌, List, [], ◌∷◌, ◌++◌, length, length-append, get_or, All, sym, subst, arith, ℤ, pos, Option, Some, None, Ok, Err}
 use Rattle.std.proofs.lemmas.Int.{ints}
 use Rattle.std.proofs.lemmas.List.Elements.{All-from_recursion, All-nil, All-append, All-head, All-tail}
 use Rattle.std.specs.List.{flat_map}
+use Rattle.flex_interval.specs.Ends.{Ends}
 use Rattle.member_set.specs.declared.members.Member.{Member}
 use Rattle.member_set.specs.declared.members.Built.{Built}
 use Rattle.member_set.specs.Members.{IsStiff, no_member}
 use Rattle.model_types.specs.Lists.{Lists}
-use Rattle.model_types.specs.Ranges.{IsStiffness, KindInForm}
+use Rattle.model_types.specs.Ranges.{IsIn, IsStiffness, KindInForm}
+use Rattle.model_types.specs.declared.ranges.TheConstants.{STIFFNESS}
 use Rattle.model_types.specs.declared.records.Record.TheVariants as record_of
 use Rattle.model_types.specs.Rules.{IsModel, Keeps}
 use Rattle.model_types.specs.declared.records.Restraint.{Restraint}
 use Rattle.model_types.specs.declared.records.RestraintKind.{RestraintKind}
 use Rattle.model_types.specs.declared.records.RestraintKind.TheVariants.{Anchor, Linear, Twist}
-use Rattle.structure.specs.Anchors.{anchor_stiffness, anchor_member, kind_members, restraint_members}
+use Rattle.restraint_law.specs.Restraints.{stated_or, anchor_stiffness, direction_stiffness, restraint_member, kind_members, restraint_members}
+use Rattle.structure.specs.Restraints.{unilateral_of}
+use Rattle.structure.specs.Stations.{stations_of}
 use Rattle.structure.specs.Sound.{IsSound, AreMembers}
 use Rattle.structure.specs.Structure.{element_members, model_members, IsStructureOf}
 use Rattle.structure.specs.Touching.{ListsTouching}
 
 -- ---- the members of restraints
 
-stiffness-low : (k : Option ℤ) → IsStiffness k → pos 1 ≤ℤ (anchor_stiffness k *ℤ pos (2 ^ 20))
-stiffness-low (Some k) in' = omega (arith, ints)
-stiffness-low None in' = omega (arith, ints)
+stated : (default : ℤ) (k : Option ℤ) → IsIn STIFFNESS default → IsStiffness k → IsIn STIFFNESS (stated_or default k)
+stated default (Some k) usual own = own
+stated default None usual own = usual
 
-stiffness-high : (k : Option ℤ) → IsStiffness k → (anchor_stiffness k *ℤ pos (2 ^ 20)) <ℤ pos (2 ^ 61)
-stiffness-high (Some k) in' = omega (arith, ints)
-stiffness-high None in' = omega (arith, ints)
+ten_billion : IsIn STIFFNESS (pos 10000000000)
+ten_billion = record { least = omega (arith, ints); most = omega (arith, ints) }
 
-anchor-sound : (nodes node : ℕ) (k : Option ℤ) (freedom : ℕ) → node < nodes → IsStiffness k → IsSound nodes (anchor_member node k freedom)
-anchor-sound nodes node k freedom inside form =
-    record { first_node = inside; second_node = inside; low = stiffness-low k form; high = stiffness-high k form }
+billion : IsIn STIFFNESS (pos 1000000000)
+billion = record { least = omega (arith, ints); most = omega (arith, ints) }
+
+member-sound : (nodes node : ℕ) (k : ℤ) (w : List Ends) → node < nodes → IsIn STIFFNESS k → IsSound nodes (restraint_member node k w)
+member-sound nodes node k w inside limits =
+    record {
+      first_node = inside;
+      second_node = inside;
+      low = omega (arith, ints, limits.least);
+      high = omega (arith, ints, limits.most);
+    }
 
 kind-sound : (nodes node : ℕ) (kind : RestraintKind) → node < nodes → KindInForm kind → All (IsSound nodes) (kind_members node kind)
 kind-sound nodes node (Anchor kt kr) inside form =
-    let translation = λ (f : ℕ). anchor-sound nodes node kt f inside form.0 in
-    let rotation = λ (f : ℕ). anchor-sound nodes node kr f inside form.1 in
+    let translation = λ (w : List Ends). member-sound nodes node (anchor_stiffness kt) w inside (stated (pos 10000000000) kt ten_billion form.0) in
+    let rotation = λ (w : List Ends). member-sound nodes node (anchor_stiffness kr) w inside (stated (pos 10000000000) kr ten_billion form.1) in
     All-from_recursion (IsSound nodes) (kind_members node (Anchor kt kr))
-    (translation 0, (translation 1, (translation 2, (rotation 3, (rotation 4, (rotation 5, tt))))))
-kind-sound nodes node (Linear dx dy dz k) inside form = All-nil (IsSound nodes)
-kind-sound nodes node (Twist dx dy dz k) inside form = All-nil (IsSound nodes)
+    (translation _, (translation _, (translation _, (rotation _, (rotation _, (rotation _, tt))))))
+kind-sound nodes node (Linear dx dy dz k) inside form =
+    All-from_recursion (IsSound nodes) (kind_members node (Linear dx dy dz k))
+    (member-sound nodes node (direction_stiffness k) _ inside (stated (pos 1000000000) k billion form.1), tt)
+kind-sound nodes node (Twist dx dy dz k) inside form =
+    All-from_recursion (IsSound nodes) (kind_members node (Twist dx dy dz k))
+    (member-sound nodes node (direction_stiffness k) _ inside (stated (pos 1000000000) k billion form.1), tt)
 
 pub restraints-sound : (m : Lists) (rs : List Restraint) → All (λ r. Keeps m (record_of.Restraint r)) rs → All (IsSound (length m.nodes)) (flat_map restraint_members rs)
 restraints-sound m [] keep = All-nil (IsSound (length m.nodes))
@@ -82,8 +97,8 @@ nodes_in_range m members are = λ k d inside. ((are.sound k d inside).first_node
 
 -- ---- the structure
 
-pub IsStructureOf-from : (m : Lists) (b : Built) → IsModel m → AreMembers m b.members → length b.at ≡ length m.nodes → ListsTouching b.members (length b.members) b.at → b.unilateral ≡ [] → b.stations ≡ [] → IsStructureOf m b
-IsStructureOf-from m b model are count lists linear no_stations =
+pub IsStructureOf-from : (m : Lists) (b : Built) → IsModel m → AreMembers m b.members → length b.at ≡ length m.nodes → ListsTouching b.members (length b.members) b.at → b.unilateral ≡ unilateral_of m → b.stations ≡ stations_of m → IsStructureOf m b
+IsStructureOf-from m b model are count lists unilateral stations =
     let most_nodes = model.few.nodes in
     record {
       members = are.value;
@@ -95,8 +110,8 @@ IsStructureOf-from m b model are count lists linear no_stations =
         rising = lists.rising;
         touching = λ node k inside. lists.touching node k;
       };
-      linear = linear;
-      no_stations = no_stations;
+      unilateral = unilateral;
+      stations = stations;
     }
 
 pub stiff : (m : Lists) (members : List Member) → AreMembers m members → (k : ℕ) → k < length members → IsStiff (get_or members k no_member).kappa

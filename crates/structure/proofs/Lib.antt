@@ -5,3 +5,6 @@ pub mod StiffLaw
 pub mod PlacedLaw
 pub mod NumbersLaw
 pub mod CountLaw
+pub mod RestraintLaw
+pub mod LengthLemmas
+pub mod StationLemmas

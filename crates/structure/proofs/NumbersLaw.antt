@@ -1,12 +1,11 @@
--- The intervals of a structure hold numbers: those of elements the exact ones, and those of anchors their own.
-use Rattle.std.proofs.Common.{◌≡◌, ℕ, zero, suc, ◌+◌, ◌-◌, ◌*◌, ◌/◌, ◌%◌, ◌<◌, ◌≤◌, ◌^◌, ◌⊎◌, inl, inr, Bool, true, false, refl, sym, subst, ap, ◌∙◌, arith, List, [], ◌∷◌, ◌++◌, length, length-append, get_or, replicate, All, Option, Result, Ok, Err, ℤ, pos, ◌*ℤ◌, ◌+ℤ◌, ◌≤ℤ◌, if◌then◌else◌}
-use Rattle.std.specs.Prelude.{◌==◌, IfOk}
+-- The intervals of a structure hold numbers: the exact ones of its straights and restraints.
+use Rattle.std.proofs.Common.{◌≡◌, ℕ, zero, suc, ◌+◌, ◌-◌, ◌/◌, ◌%◌, ◌<◌, ◌≤◌, ◌^◌, inl, inr, true, false, refl, sym, subst, ap, ◌∙◌, arith, List, [], ◌∷◌, ◌++◌, length, length-append, get_or, All, Option, Ok, ℤ, pos, ◌*ℤ◌, ◌+ℤ◌, ◌≤ℤ◌, if◌then◌else◌}
+use Rattle.std.specs.Prelude.{◌==◌}
 use Rattle.std.specs.List.{flat_map}
 use Rattle.std.specs.Ordering.{int_eq}
-use Rattle.std.proofs.Math.ListN.{length-replicate}
 use Rattle.std.proofs.lemmas.Int.{ints}
-use Rattle.std.proofs.lemmas.List.{get_or_append_left, get_or-append-add, get_or-replicate}
-use Rattle.std.proofs.lemmas.List.Elements.{All-from_recursion, All-nil, All-append}
+use Rattle.std.proofs.lemmas.List.{get_or-append-add}
+use Rattle.std.proofs.lemmas.List.Elements.{All-from_recursion, All-from_get_or, All-nil, All-append, All-head, All-tail}
 use Rattle.std.proofs.lemmas.Bool.{cases_lt}
 use Rattle.int_laws.proofs.Sums.{int_sums}
 use Rattle.int_laws.proofs.Products.{le_of_mul, one-mul, mul_comm}
@@ -15,10 +14,7 @@ use Rattle.int_laws.specs.Root.{root_of, root_up_of}
 use Rattle.angle_table.specs.Pi.{pi_ends}
 use Rattle.flex_interval.specs.Ends.{Ends}
 use Rattle.flex_interval.specs.Fraction.{Fraction, Within}
-use Rattle.flex_interval.specs.Operations.{ends, is_small, point_of, shifted_of, sqrt_of}
-use Rattle.lists.specs.Results.{and_then}
-use Rattle.flex_interval.specs.declared.fault.IvFault.{IvFault}
-use Rattle.flex_interval.specs.declared.fault.IvFault.TheVariants as fault
+use Rattle.flex_interval.specs.Operations.{ends}
 use Rattle.member_set.specs.declared.members.Member.{Member}
 use Rattle.member_set.specs.declared.members.Built.{Built}
 use Rattle.member_set.specs.Members.{nothing, no_member, member_of, shape_at}
@@ -27,19 +23,24 @@ use Rattle.model_types.specs.declared.records.Restraint.{Restraint}
 use Rattle.model_types.specs.declared.records.RestraintKind.{RestraintKind}
 use Rattle.model_types.specs.declared.records.RestraintKind.TheVariants.{Anchor, Linear, Twist}
 use Rattle.member_pairs.specs.Axes.{Axis, x_axis, y_axis, z_axis, Motion, translation, rotation, End, from_end, to_end}
-use Rattle.member_pairs.specs.Lengths.{length_of, IsLengthWithin}
+use Rattle.member_pairs.specs.Lengths.{IsLengthWithin}
 use Rattle.member_pairs.specs.Pairs.{EnclosesMember, EnclosesShape}
 use Rattle.member_pairs.specs.Span.{Span, square_of}
 use Rattle.pipe_element.specs.ExactStraight.{Mode, axial, torsion, bending, shear}
 use Rattle.pipe_element.specs.Straight.{mode_number}
-use Rattle.structure.specs.Anchors.{unit_along, anchor_member, kind_members, restraint_members}
+use Rattle.restraint_law.specs.Directions.{towards, shifted_square, length_of as direction_length_of}
+use Rattle.restraint_law.specs.Enclosures.{HoldsTowards, EnclosesRestraint}
+use Rattle.restraint_law.specs.Restraints.{kind_members, restraint_members}
 use Rattle.structure.specs.Elements.{element_at, span_of, member_count_below, element_member_count}
-use Rattle.structure.specs.Enclosure.{EnclosesElements}
+use Rattle.structure.specs.Enclosure.{EnclosesElements, EnclosesRestraints, HoldsRestraint}
 use Rattle.structure.specs.Numbers.{HoldsNumbers, StructuresHoldNumbers}
+use Rattle.structure.specs.Restraints.{no_restraint, restraint_at}
 use Rattle.structure.specs.Structure.{element_members, model_members, IsStructureOf}
 use Rattle.structure.proofs.StiffLaw.{then_members-ok, whole-is}
+use Rattle.structure.proofs.LengthLemmas.{length_holds}
 use Rattle.structure.proofs.MemberLemmas.{shape-count}
 use Rattle.structure.proofs.PlacedLaw.{elements-count}
+use Rattle.structure.proofs.RestraintLaw.{placed_restraint}
 
 -- the ends are in order
 abbrev IsOrdered : Ends → Type 0
@@ -66,18 +67,11 @@ root_order n = elim (int_eq (power (root_of n) 2) n) as (λ t. root_of n ≤ℤ 
   | false ↦ omega (arith, int_sums)
 ]
 
-abbrev tested : Bool → ℤ → Result ℤ IvFault
-tested t n = if t then Ok n else Err fault.Wide
-
-root_holds : (t : Bool) (n : ℤ) →
-    (l : Fraction) × IfOk (and_then (and_then (tested t n) (λ x. and_then (tested t n) (λ y. Result.Ok (ends x y)))) (λ e. Ok (ends (root_of e.lo) (root_up_of e.hi)))) (λ e. Within e l)
-root_holds true n = (record { num = root_of n; den = pos 1 }, lower_within (ends (root_of n) (root_up_of n)) (root_order n))
-root_holds false n = (record { num = n; den = pos 1 }, tt)
-
 -- the enclosure of a length holds a number
 length_exists : (d : Span) → (l : Fraction) × IsLengthWithin d l
-unfolding length_of sqrt_of shifted_of
-length_exists d = root_holds (is_small (square_of d *ℤ pos (2 ^ 72))) (square_of d *ℤ pos (2 ^ 72))
+length_exists d =
+    let n = square_of d *ℤ pos (2 ^ 72) in
+    (record { num = root_of n; den = pos 1 }, length_holds d _ (lower_within (ends (root_of n) (root_up_of n)) (root_order n)))
 
 -- ---- a member of an element
 
@@ -122,34 +116,42 @@ pair_holds : (m : Member) (kappa : Fraction) (exact : End → Motion → Axis �
 pair_holds m kappa exact encloses =
     record { stiffness = ordered m.kappa kappa encloses.stiffness; shape = shape_ordered m (place_holds m.w exact encloses.shape) }
 
--- ---- a member of an anchor
+-- ---- a member of a restraint
 
-unit_ordered : (freedom p : ℕ) → p < 12 → IsOrdered (get_or (unit_along freedom) p nothing)
-unit_ordered freedom p small =
-    let all : All IsOrdered (unit_along freedom) =
-    All-append IsOrdered (replicate freedom nothing) (point_of (pos (2 ^ 56)) ∷ replicate (11 - freedom) nothing)
-    (none_ordered freedom) (All-append IsOrdered (point_of (pos (2 ^ 56)) ∷ []) (replicate (11 - freedom) nothing)
-    (All-from_recursion IsOrdered (point_of (pos (2 ^ 56)) ∷ []) (omega (arith, ints), tt)) (none_ordered (11 - freedom))) in
-    let inside : p < length (unit_along freedom) =
-    omega (arith, length-append (replicate freedom nothing) (point_of (pos (2 ^ 56)) ∷ replicate (11 - freedom) nothing), length-replicate freedom nothing, length-replicate (11 - freedom) nothing) in
-    all p nothing inside
-  where
-    none_ordered : (n : ℕ) → All IsOrdered (replicate n nothing)
-    none_ordered n = λ k d inside. subst IsOrdered (sym (get_or-replicate n k nothing d (omega (arith, inside, length-replicate n nothing)))) (omega (arith, ints))
+-- the enclosure of a direction's length holds a number
+direction_length : (v : Span) → (l : Fraction) × Within (direction_length_of v) l
+direction_length v = (record { num = root_of (shifted_square v); den = pos 1 }, lower_within (direction_length_of v) (root_order (shifted_square v)))
 
-anchor_holds : (node : ℕ) (k : Option ℤ) (freedom : ℕ) → HoldsNumbers (anchor_member node k freedom)
-anchor_holds node k freedom = record { stiffness = omega (arith, int_sums); shape = shape_ordered (anchor_member node k freedom) (unit_ordered freedom) }
+towards_holds : (m : Member) (k : Option ℤ) (motion : Motion) (v : Span) → HoldsTowards m k motion v → HoldsNumbers m
+towards_holds m k motion v holds = let l = direction_length v in pair_holds _ _ _ (holds.along l.0 l.1)
 
-kind_holds : (node : ℕ) (kind : RestraintKind) → All HoldsNumbers (kind_members node kind)
-kind_holds node (Anchor kt kr) =
-    All-from_recursion HoldsNumbers (kind_members node (Anchor kt kr))
-    (anchor_holds node kt 0, (anchor_holds node kt 1, (anchor_holds node kt 2, (anchor_holds node kr 3, (anchor_holds node kr 4, (anchor_holds node kr 5, tt))))))
-kind_holds node (Linear dx dy dz k) = All-nil HoldsNumbers
-kind_holds node (Twist dx dy dz k) = All-nil HoldsNumbers
+kind_holds : (node : ℕ) (kind : RestraintKind) → EnclosesRestraint kind (kind_members node kind) → All HoldsNumbers (kind_members node kind)
+kind_holds node (Anchor kt kr) holds =
+    All-from_recursion HoldsNumbers (kind_members node (Anchor kt kr)) (
+      pair_holds _ _ _ (holds translation x_axis),
+      (
+        pair_holds _ _ _ (holds translation y_axis),
+        (
+          pair_holds _ _ _ (holds translation z_axis),
+          (pair_holds _ _ _ (holds rotation x_axis), (pair_holds _ _ _ (holds rotation y_axis), (pair_holds _ _ _ (holds rotation z_axis), tt))),
+        ),
+      ),
+    )
+kind_holds node (Linear dx dy dz k) holds =
+    All-from_recursion HoldsNumbers (kind_members node (Linear dx dy dz k)) (towards_holds _ k translation (towards dx dy dz) holds, tt)
+kind_holds node (Twist dx dy dz k) holds =
+    All-from_recursion HoldsNumbers (kind_members node (Twist dx dy dz k)) (towards_holds _ k rotation (towards dx dy dz) holds, tt)
 
-restraints_hold : (rs : List Restraint) → All HoldsNumbers (flat_map restraint_members rs)
-restraints_hold [] = All-nil HoldsNumbers
-restraints_hold (r ∷ rs) = All-append HoldsNumbers (restraint_members r) (flat_map restraint_members rs) (kind_holds r.node.0 r.kind) (restraints_hold rs)
+restraints_hold : (rs : List Restraint) → All HoldsRestraint rs → All HoldsNumbers (flat_map restraint_members rs)
+restraints_hold [] each = All-nil HoldsNumbers
+restraints_hold (r ∷ rs) each =
+    All-append HoldsNumbers (restraint_members r) (flat_map restraint_members rs) (kind_holds r.node.0 r.kind (All-head HoldsRestraint r rs each))
+    (restraints_hold rs (All-tail HoldsRestraint r rs each))
+
+each_holds : (m : Lists) (b : Built) → IsStructureOf m b → EnclosesRestraints m b → All HoldsRestraint m.restraints
+each_holds m b structure encloses =
+    All-from_get_or HoldsRestraint m.restraints no_restraint
+    (λ n inside. subst (EnclosesRestraint (restraint_at m n).kind) (placed_restraint m b structure n inside) (encloses n inside))
 
 -- ---- a structure's
 
@@ -169,7 +171,7 @@ element_holds m b encloses (suc count) few k below =
 
 pub structures_hold_numbers : StructuresHoldNumbers
 unfolding model_members
-structures_hold_numbers m b structure encloses k inside =
+structures_hold_numbers m b structure encloses holds k inside =
     let step = then_members-ok (element_members m (length m.elements)) (λ members. Ok (members ++ flat_map restraint_members m.restraints)) b.members structure.members in
     let whole = whole-is step.0 (flat_map restraint_members m.restraints) b.members step.2 in
     let long = elements-count m (length m.elements) step.0 step.1 in
@@ -184,5 +186,5 @@ structures_hold_numbers m b structure encloses k inside =
           ∙ get_or-append-add step.0 (flat_map restraint_members m.restraints) (k - length step.0) no_member in
           let room : k - length step.0 < length (flat_map restraint_members m.restraints) =
           omega (arith, long, ap length whole, length-append step.0 (flat_map restraint_members m.restraints)) in
-          subst HoldsNumbers (sym at) (restraints_hold m.restraints (k - length step.0) no_member room)
+          subst HoldsNumbers (sym at) (restraints_hold m.restraints (each_holds m b structure holds) (k - length step.0) no_member room)
     ]

@@ -1,23 +1,20 @@
 -- Where the members of an element stand among those of a structure, and what they hold there.
-use Rattle.std.proofs.Common.{◌≡◌, ℕ, zero, suc, ◌+◌, ◌*◌, ◌<◌, ◌≤◌, refl, sym, subst, ap, ◌∙◌, arith, inl, inr, List, [], ◌++◌, length, length-append, get_or, Ok}
+use Rattle.std.proofs.Common.{◌≡◌, ℕ, zero, suc, ◌+◌, ◌<◌, ◌≤◌, sym, subst, ap, ◌∙◌, arith, inl, inr, List, [], ◌++◌, length, length-append, get_or, Ok}
 use Rattle.std.specs.List.{flat_map}
 use Rattle.std.proofs.lemmas.Bool.{cases_eq}
 use Rattle.std.proofs.lemmas.List.{get_or_append_left, get_or-append-add}
-use Rattle.angle_table.specs.Pi.{pi_ends}
-use Rattle.flex_interval.specs.Fraction.{Fraction, Within}
 use Rattle.member_set.specs.declared.members.Member.{Member}
 use Rattle.member_set.specs.declared.members.Built.{Built}
 use Rattle.member_set.specs.Members.{no_member}
 use Rattle.model_types.specs.Lists.{Lists}
 use Rattle.model_types.specs.MemberCounts.{shape_member_count}
-use Rattle.member_pairs.specs.Axes.{Axis, x_axis, y_axis, z_axis, axis_number}
-use Rattle.member_pairs.specs.Lengths.{IsLengthWithin}
+use Rattle.member_pairs.specs.Axes.{x_axis, y_axis, z_axis}
 use Rattle.member_pairs.specs.Pairs.{EnclosesMember}
 use Rattle.pipe_element.specs.ExactStraight.{Mode, axial, torsion, bending, shear, stiffness_of, shape_of}
-use Rattle.pipe_element.specs.Straight.{mode_number, EnclosesStraight}
-use Rattle.structure.specs.Anchors.{restraint_members}
+use Rattle.pipe_element.specs.Straight.{mode_number}
+use Rattle.restraint_law.specs.Restraints.{restraint_members}
 use Rattle.structure.specs.Elements.{members_of_element, element_at, span_of, tube_of_element, member_count_below}
-use Rattle.structure.specs.Enclosure.{EnclosesElement, EachEncloses, EnclosesElements}
+use Rattle.structure.specs.Enclosure.{EachEncloses, EnclosesElements}
 use Rattle.structure.specs.Structure.{with_element, element_members, model_members, IsStructureOf}
 use Rattle.structure.proofs.MemberLemmas.{members-count, shape-count}
 use Rattle.structure.proofs.StiffLaw.{then_members-ok, with_element-ok, whole-is}
@@ -41,7 +38,7 @@ own-below m n (suc count) below =
     ]
 
 -- the members of the n-th of N elements stand behind those of the elements before it
-placed : (m : Lists) (count : ℕ) (all : List Member) → element_members m count ≡ Ok all → (n : ℕ) → n < count →
+pub placed : (m : Lists) (count : ℕ) (all : List Member) → element_members m count ≡ Ok all → (n : ℕ) → n < count →
     (members : List Member) × (members_of_element m (element_at m n) ≡ Ok members)
     × ((j : ℕ) → j < shape_member_count (element_at m n).shape → get_or all (member_count_below m n + j) no_member ≡ get_or members j no_member)
 placed m zero all is n below = absurd (omega arith)

@@ -1,5 +1,5 @@
 -- The members of every structure of a model are stiff.
-use Rattle.std.proofs.Common.{◌≡◌, ℕ, zero, suc, ◌<◌, ◌^◌, Bool, true, false, ◌&&◌, if◌then◌else◌, refl, List, [], ◌++◌, length, All, sym, subst, arith, pos, Result, Ok, Err}
+use Rattle.std.proofs.Common.{◌≡◌, ℕ, zero, suc, ◌^◌, Bool, true, false, ◌&&◌, if◌then◌else◌, refl, List, [], ◌++◌, length, All, subst, arith, pos, Result, Ok, Err}
 use Rattle.std.specs.Prelude.{int_le, int_lt}
 use Rattle.std.specs.List.{flat_map}
 use Rattle.std.proofs.lemmas.Int.{ints}
@@ -22,7 +22,7 @@ use Rattle.pipe_element.specs.Rounded.{stiffness_of, shapes_of, are_stiffnesses,
 use Rattle.pipe_element.specs.Straight.{straight_of, limited, members_of as straight_members}
 use Rattle.pipe_element.specs.declared.shapes.Shapes.{Shapes}
 use Rattle.pipe_element.specs.declared.stiffness.Stiffness.{Stiffness}
-use Rattle.structure.specs.Anchors.{restraint_members}
+use Rattle.restraint_law.specs.Restraints.{restraint_members}
 use Rattle.structure.specs.Elements.{members_of_element, element_at, from_of, to_of, section_of, material_of}
 use Rattle.structure.specs.Sound.{IsSound}
 use Rattle.structure.specs.Structure.{Members, with_element, then_members, element_members, model_members, StructuresAreStiff}

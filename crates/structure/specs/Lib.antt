@@ -1,6 +1,7 @@
 pub mod Elements
 pub mod Enclosure
-pub mod Anchors
+pub mod Restraints
+pub mod Stations
 pub mod Structure
 pub mod Sound
 pub mod Touching

@@ -1,17 +1,19 @@
 -- The structure of a model: its members, element by element and then restraint by restraint.
-use Rattle.std.specs.Prelude.{◌≡◌, ℕ, zero, suc, ◌+◌, ◌^◌, ◌<◌, List, [], ◌++◌, length, slice_index_or, filter, Result, Ok, Err, pos, ◌≤ℤ◌, ◌<ℤ◌}
+use Rattle.std.specs.Prelude.{◌≡◌, ℕ, zero, suc, ◌+◌, List, [], ◌++◌, length, slice_index_or, filter, Result, Ok, Err}
 use Rattle.std.specs.List.{flat_map, range_with_len}
 use Rattle.lists.specs.Listed.{listed}
 use Rattle.lists.specs.Results.{and_then}
 use Rattle.flex_interval.specs.declared.fault.Wide.{Wide}
 use Rattle.member_set.specs.declared.members.Member.{Member}
 use Rattle.member_set.specs.declared.members.Built.{Built}
-use Rattle.member_set.specs.Members.{IsBuilt, member_of, built_nodes, no_member, touches, AreStiff}
+use Rattle.member_set.specs.Members.{IsBuilt, built_nodes, no_member, touches, AreStiff}
 use Rattle.model_types.specs.Lists.{Lists}
 use Rattle.model_types.specs.Rules.{IsModel}
 use Rattle.model_types.specs.MemberCounts.{restraints_member_count}
+use Rattle.restraint_law.specs.Restraints.{restraint_members}
 use Rattle.structure.specs.Elements.{members_of_element, element_at, element_member_count}
-use Rattle.structure.specs.Anchors.{restraint_members, HasAnchorsAlone}
+use Rattle.structure.specs.Restraints.{unilateral_of}
+use Rattle.structure.specs.Stations.{stations_of}
 
 -- members, or the number of an element that leaves its limits
 abbrev pub Members : Type 0
@@ -40,28 +42,27 @@ model_members m = then_members (element_members m (length m.elements)) (λ membe
 abbrev pub touching_numbers : List Member → ℕ → List ℕ
 touching_numbers members node = filter (λ k. touches (slice_index_or members k no_member) node) (range_with_len 0 (length members))
 
--- linear members between so many nodes; stations are left out
-abbrev pub linear_structure : ℕ → List Member → Built
-linear_structure nodes members = record { members = members; unilateral = []; stations = []; at = listed nodes (touching_numbers members) }
+-- a model's structure with these members
+abbrev pub structure_with : Lists → List Member → Built
+structure_with m members = record { members = members; unilateral = unilateral_of m; stations = stations_of m; at = listed (length m.nodes) (touching_numbers members) }
 
 -- the structure of a model, or the number of the first element that leaves its limits
 abbrev pub structure_of : Lists → Result Built ℕ
-structure_of m = and_then (model_members m) (λ members. Ok (linear_structure (length m.nodes) members))
+structure_of m = and_then (model_members m) (λ members. Ok (structure_with m members))
 
--- the structure of a model, all of whose members are linear; stations are left out
+-- the structure of a model
 pub record IsStructureOf (m : Lists) (b : Built) : Type 0 where
   pub members : model_members m ≡ Ok b.members
   pub nodes : built_nodes b ≡ length m.nodes
   pub built : IsBuilt b
-  pub linear : b.unilateral ≡ []
-  pub no_stations : b.stations ≡ []
+  pub unilateral : b.unilateral ≡ unilateral_of m
+  pub stations : b.stations ≡ stations_of m
 
 -- the members of every structure of a model are stiff
 abbrev pub StructuresAreStiff : Type 0
 StructuresAreStiff = (m : Lists) (b : Built) → IsModel m → IsStructureOf m b → AreStiff b
 
--- a model that anchors alone hold has the members of its elements, as many as their shapes say, and then one for each load of
--- its restraints
+-- a model has the members of its elements, as many as their shapes say, and then one for each load of its restraints
 abbrev pub ModelsHaveTheirMembers : Type 0
-ModelsHaveTheirMembers = (m : Lists) (members : List Member) → HasAnchorsAlone m → model_members m ≡ Ok members →
+ModelsHaveTheirMembers = (m : Lists) (members : List Member) → model_members m ≡ Ok members →
     length members ≡ element_member_count m + restraints_member_count m.restraints

@@ -1,7 +1,7 @@
 ghost use Rattle.structure.specs.Numbers.{StructuresHoldNumbers};
 ghost use Rattle.structure.specs.Structure.{ModelsHaveTheirMembers, StructuresAreStiff};
 
-/// A model that anchors alone hold has as many members as the shapes of its elements and the kinds of its restraints say.
+/// A model has as many members as the shapes of its elements and the kinds of its restraints say.
 pub fn models_have_their_members()
     ensures { ModelsHaveTheirMembers }
 {}
@@ -11,7 +11,7 @@ pub fn structures_are_stiff()
     ensures { StructuresAreStiff }
 {}
 
-/// Where the members of its elements hold the exact straights, each stiffness and shape number of a structure has an interval
+/// Where the members hold the exact straights and restraints, each stiffness and shape number of a structure has an interval
 /// that holds a number.
 pub fn structures_hold_numbers()
     ensures { StructuresHoldNumbers }

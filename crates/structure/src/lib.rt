@@ -1,11 +1,12 @@
 //! The structure of a model: the members of its elements and restraints, and which of them touch each node.
 #![tactic(auto)]
 
-mod anchors;
 mod building;
 mod elements;
 mod fault;
 mod laws;
+mod restraints;
+mod stations;
 mod touching;
 
 pub use building::build;

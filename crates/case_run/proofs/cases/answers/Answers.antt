@@ -7,7 +7,6 @@ use Rattle.model_types.specs.Fits.{AreAnswersOf}
 use Rattle.model_types.specs.Lists.{Lists}
 use Rattle.model_types.specs.Rules.{IsModel}
 use Rattle.model_types.specs.declared.answers.CaseAnswer.{CaseAnswer}
-use Rattle.structure.specs.Anchors.{HasAnchorsAlone}
 use Rattle.structure.specs.Structure.{ModelsHaveTheirMembers}
 use Rattle.case_run.specs.Causes.{plan}
 use Rattle.case_run.specs.Answers.{base, answers_of}
@@ -16,10 +15,10 @@ use Rattle.case_run.proofs.Fits.{answers_fit}
 use Rattle.case_run.proofs.cases.answers.Goals as goal
 
 -- answers that are those of the model fit it
-given_fit : PassedTestIsProof → BoundsAreLimited → ModelsHaveTheirMembers → (m : Lists) (order : List ℕ) (parents : List (Option ℕ)) (answers : List CaseAnswer) → HasAnchorsAlone m →
+given_fit : PassedTestIsProof → BoundsAreLimited → ModelsHaveTheirMembers → (m : Lists) (order : List ℕ) (parents : List (Option ℕ)) (answers : List CaseAnswer) →
     IsModel m → IsOrder order → length order ≡ length m.nodes → answers ≡ answers_of m (plan order parents) → AreAnswersOf m answers
-given_fit passed_test limits counts m order parents answers anchors model ordered nodes is =
-    subst (AreAnswersOf m) (sym is) (answers_fit passed_test limits counts m (plan order parents) anchors (omega (arith, nodes, model.some_node)) ordered nodes)
+given_fit passed_test limits counts m order parents answers model ordered nodes is =
+    subst (AreAnswersOf m) (sym is) (answers_fit passed_test limits counts m (plan order parents) (omega (arith, nodes, model.some_node)) ordered nodes)
 
 pub returns-in-Ok-clause-given : goal.returns-in-Ok-clause-given
 returns-in-Ok-clause-given c =
@@ -41,7 +40,7 @@ returns-in-Ok-clause-fit c =
     IfOk-weaker c.each_answer.result _ _
     (λ answers is.
     given_fit c.passed_test_is_proof.ensures c.bounds_are_limited.ensures c.models_have_their_members.ensures c.args.m.now c.args.order.now c.args.parents.now answers.items
-    c.requires.anchors c.nodes-nodes.ensures.model c.requires.order c.requires.nodes is)
+    c.nodes-nodes.ensures.model c.requires.order c.requires.nodes is)
     (returns-in-Ok-clause-given c)
 
 pub returns-in-Err-Because-clause-fit : goal.returns-in-Err-Because-clause-fit
@@ -49,5 +48,5 @@ returns-in-Err-Because-clause-fit c =
     IfOk-weaker c.same_answers.result _ _
     (λ answers is.
     given_fit c.passed_test_is_proof.ensures c.bounds_are_limited.ensures c.models_have_their_members.ensures c.args.m.now c.args.order.now c.args.parents.now answers.items
-    c.requires.anchors c.nodes-nodes.ensures.model c.requires.order c.requires.nodes is)
+    c.nodes-nodes.ensures.model c.requires.order c.requires.nodes is)
     (returns-in-Err-Because-clause-given c)

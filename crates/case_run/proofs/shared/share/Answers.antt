@@ -13,6 +13,7 @@ returns-clause-ready c =
     record {
       structure = c.in_ok-b.ensures.structure;
       stiff = c.in_ok-b.ensures.stiff;
+      linear = c.in_ok-b.ensures.linear;
       laws = c.in_ok-laws.ensures;
       positive = rw (to_z-of_z fits) c.in_ok-lambda.ensures.positive;
       factor =

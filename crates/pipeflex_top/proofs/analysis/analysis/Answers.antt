@@ -28,7 +28,7 @@ returns c =
         written = report;
         ends = subst (λ answers. EndsWith answers c.ending_with-status.result) (c.deref.ensures.value ∙ given) c.ending_with-status.ensures;
       },
-      report_told c.printed_pairs_hold.ensures c.models_have_their_members.ensures model (analysis_of model) c.in_ok-bytes.bytes.items c.requires.anchors
+      report_told c.printed_pairs_hold.ensures c.models_have_their_members.ensures model (analysis_of model) c.in_ok-bytes.bytes.items
           (length-map-range_with_len (answer_of model text_order) 0 (length model.cases))
           (c.answers_hold.ensures.all model text_order c.nodes-nodes.ensures.model (sym c.requires.few.nodes)) report,
     )

@@ -2,7 +2,7 @@ use Rattle.std.proofs.Common.{IsTrue, subst, sym, ◌∙◌, refl, take_all}
 use Rattle.std.proofs.lemmas.List.Elements.{All-more}
 use Rattle.std.specs.List.{All}
 use Rattle.model_types.specs.declared.records.Restraint.{Restraint}
-use Rattle.structure.specs.Anchors.{IsAnchor}
+use Rattle.pipeflex_top.specs.OneStraight.{IsAnchor}
 use Rattle.pipeflex_top.proofs.one_straight.has_anchors_alone.Goals as goal
 
 abbrev Holds : Restraint → Type 0
