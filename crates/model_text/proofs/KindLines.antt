@@ -29,11 +29,11 @@ made_under k w = one_if (makes k w)
 
 -- what is accepted by a test, or by the step behind another
 module _ {A : Type 0} {R : Type 0} (t : A) where
-  by_test : (b : Bool) (x y : Result A ℕ) → (if b then x else y) ≡ Ok t → ((b ≡ true) → (x ≡ Ok t) → R) → ((b ≡ false) → (y ≡ Ok t) → R) → R
+  pub by_test : (b : Bool) (x y : Result A ℕ) → (if b then x else y) ≡ Ok t → ((b ≡ true) → (x ≡ Ok t) → R) → ((b ≡ false) → (y ≡ Ok t) → R) → R
   by_test true x y e f g = f refl e
   by_test false x y e f g = g refl e
 
-  by_step : {B : Type 0} (r : Result B ℕ) (f : B → Result A ℕ) → (r >>= f) ≡ Ok t → ((x : B) → (r ≡ Ok x) → (f x ≡ Ok t) → R) → R
+  pub by_step : {B : Type 0} (r : Result B ℕ) (f : B → Result A ℕ) → (r >>= f) ≡ Ok t → ((x : B) → (r ≡ Ok x) → (f x ≡ Ok t) → R) → R
   by_step (Ok x) f e g = g x refl e
   by_step (Err n) f e g = absurd (err_no_ok t n e)
 

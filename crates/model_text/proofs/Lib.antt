@@ -1,5 +1,6 @@
 mod Appended
 mod KindLines
+mod LineLaws
 mod LineLemmas
 mod PlainWords
 mod RoundTrip

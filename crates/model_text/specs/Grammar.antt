@@ -1,10 +1,10 @@
 -- The model text: the lists that it stands for, or the number and line of its refusal.
-use Rattle.std.specs.Prelude.{◌≡◌, ◌≢◌, ◌↔◌, ℕ, ◌+◌, ◌<◌, ◌≤◌, ◌==◌, true, false, nat_lt, List, [], ◌∷◌, ◌++◌, length, Result, Ok, Err, if◌then◌else◌}
+use Rattle.std.specs.Prelude.{◌≡◌, ◌≢◌, ◌↔◌, ℕ, ◌+◌, ◌<◌, ◌≤◌, ◌==◌, true, false, nat_lt, List, [], ◌∷◌, ◌++◌, length, All, Result, Ok, Err, if◌then◌else◌}
 use Rattle.model_types.specs.Kinds.{Kind, count}
 use Rattle.model_types.specs.Lists.{Lists}
 use Rattle.text_words.specs.Fields.{lines}
 use Rattle.model_text.specs.declared.reader.TheConstants.{LONGEST_TEXT}
-use Rattle.model_text.specs.Lines.{State, start, after_line}
+use Rattle.model_text.specs.Lines.{State, start, after_line, is_at_rest}
 
 -- a number that refuses the text, and the line to which it points
 pub record Refusal : Type 0 where
@@ -82,3 +82,11 @@ pub record IsLineOf (text : List ℕ) (k : Kind) (number line : ℕ) : Type 0 wh
   pub next : after_line read at ≡ Ok read_next
   pub not_before : count read.draft k ≤ number
   pub there : number < count read_next.draft k
+
+-- a record is made by one line
+abbrev pub LinesAreDetermined : Type 0
+LinesAreDetermined = (text : List ℕ) (k : Kind) (number line other : ℕ) → IsLineOf text k number line → IsLineOf text k number other → line ≡ other
+
+-- all numbers of each case are 0
+abbrev pub CasesAreAtRest : Type 0
+CasesAreAtRest = (text : List ℕ) (m : Lists) → parsed text ≡ Ok m → All (λ c. is_at_rest c ≡ true) m.cases

@@ -7,5 +7,7 @@ mod records;
 mod words;
 mod writer;
 
-pub use reader::{TextFault, grammar_is_told, node_line, read};
+pub use reader::{
+    TextFault, cases_are_at_rest, grammar_is_told, lines_are_determined, node_line, read,
+};
 pub use writer::echo;

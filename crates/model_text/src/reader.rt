@@ -79,6 +79,16 @@ pub fn grammar_is_told()
     ensures accepted { grammar.ModelsAreAccepted }
 {}
 
+/// What shows that the line of a record leaves no choice: one line makes it.
+pub fn lines_are_determined()
+    ensures { grammar.LinesAreDetermined }
+{}
+
+/// What the cases of an accepted text are, since a case with a load of its own is refused: nothing but forces acts in them.
+pub fn cases_are_at_rest()
+    ensures { grammar.CasesAreAtRest }
+{}
+
 // Reads a text.
 fn read_lines(alloc: Global, text: &[u8]) -> Result<Model, TextFault>
     ensures model { IfOk result (λ model. grammar.parsed text.now ≡ Ok model) }

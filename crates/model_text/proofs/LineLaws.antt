@@ -1,0 +1,132 @@
+-- What holds of all lines of a text: a record is made by one of them, and a case that is read is at rest.
+use Rattle.std.proofs.Common.{◌≡◌, ◌<◌, ◌≤◌, ℕ, ◌+◌, ◌==◌, Bool, true, false, not, List, [], ◌∷◌, ◌++◌, length, length-append, All, Option, Some, None, Result, Ok, Err, inl, inr, subst, refl, sym, ap, ◌∙◌, le_refl, arith}
+use Rattle.std.proofs.lemmas.Bool.{cases_lt}
+use Rattle.std.proofs.lemmas.List.Elements.{All-push, All-nil}
+use Rattle.std.specs.List.{list_all}
+use Rattle.model_types.specs.declared.records.Record.{Record}
+use Rattle.model_types.specs.declared.records.Record.TheVariants as record_of
+use Rattle.model_types.specs.Kinds.{Kind, count}
+use Rattle.model_types.specs.Lists.{Lists, added}
+use Rattle.model_types.specs.Refusals.{refusal}
+use Rattle.text_words.specs.Fields.{lines}
+use Rattle.model_text.specs.Grammar.{after_lines, IsLineOf, LinesAreDetermined, CasesAreAtRest}
+use Rattle.model_text.specs.Lines.{State, start, after_line, after_words, is_at_rest, is_header, is_loaded_case, judged, record_taken, taken}
+use Rattle.model_text.specs.Records.{record_of_words}
+use Rattle.model_text.specs.Words.{words, is_allowed}
+use Rattle.model_text.proofs.KindLines.{by_test, by_step, line_made}
+use Rattle.model_text.proofs.LineLemmas.{ok_same, err_no_ok, after_lines-nil, after_lines-Ok, after_lines-Err, after_lines-append, parsed-stands}
+
+-- ---- what every accepted line keeps
+
+module _ (P : State → Type 0) (keeps : (s t : State) (line : List ℕ) → after_line s line ≡ Ok t → P s → P t) where
+  step_keeps : (s t : State) (n : ℕ) (x : List ℕ) (xs : List (List ℕ)) → ((u : State) → after_lines u (n + 1) xs ≡ Ok t → P u → P t)
+      → (r : Result State ℕ) → after_line s x ≡ r → after_lines s n (x ∷ xs) ≡ Ok t → P s → P t
+  step_keeps s t n x xs rest (Ok u) f e first = rest u (sym (after_lines-Ok s n x xs u f) ∙ e) (keeps s u x f first)
+  step_keeps s t n x xs rest (Err k) f e first = absurd (err_no_ok t (record { number = k; line = n }) (sym (after_lines-Err s n x xs k f) ∙ e))
+
+  lines_keep : (s t : State) (n : ℕ) (all : List (List ℕ)) → after_lines s n all ≡ Ok t → P s → P t
+  lines_keep s t n [] e first = subst P (ok_same (after_lines s n []) s t (after_lines-nil s n) e) first
+  lines_keep s t n (x ∷ xs) e first = step_keeps s t n x xs (λ u. lines_keep u t (n + 1) xs) (after_line s x) refl e first
+
+-- ---- the line of a record
+
+-- the shorter of two first parts begins the longer
+record Begins {X : Type 0} (xs ys us vs : List X) : Type 0 where
+  middle : List X
+  longer : us ≡ xs ++ middle
+  rest : ys ≡ middle ++ vs
+
+first_same : {X : Type 0} (x y : X) (xs ys : List X) → x ∷ xs ≡ y ∷ ys → x ≡ y
+first_same x y xs ys e = cc
+
+rest_same : {X : Type 0} (x y : X) (xs ys : List X) → x ∷ xs ≡ y ∷ ys → xs ≡ ys
+rest_same x y xs ys e = cc
+
+begins : {X : Type 0} (xs ys us vs : List X) → xs ++ ys ≡ us ++ vs → length xs ≤ length us → Begins xs ys us vs
+begins [] ys us vs same short = record { middle = us; longer = refl; rest = same }
+begins (x ∷ xs) ys [] vs same short = absurd (omega (arith, short))
+begins (x ∷ xs) ys (u ∷ us) vs same short =
+    let more = begins xs ys us vs (rest_same x u (xs ++ ys) (us ++ vs) same) (omega (arith, short)) in
+    record { middle = more.middle; longer = ap (λ y. y ∷ us) (sym (first_same x u (xs ++ ys) (us ++ vs) same)) ∙ ap (λ l. x ∷ l) more.longer; rest = more.rest }
+
+module _ (text : List ℕ) (k : Kind) (number line other : ℕ) (a : IsLineOf text k number line) (b : IsLineOf text k number other) where
+  -- what has made more of a kind keeps them
+  count_keeps : (least : ℕ) (s t : State) (at : List ℕ) → after_line s at ≡ Ok t → least ≤ count s.draft k → least ≤ count t.draft k
+  count_keeps least s t at e small = omega (arith, small, line_made k s t at e)
+
+  -- a line before another makes another record
+  behind_line : (x : List ℕ) (xs : List (List ℕ)) → b.is_line.before ≡ a.is_line.before ++ x ∷ xs → x ≡ a.at → ⊥
+  behind_line x xs longer is =
+      let place = 1 + length a.is_line.before in
+      let read : after_lines start 1 b.is_line.before ≡ after_lines a.read_next (place + 1) xs =
+      ap (after_lines start 1) longer ∙ after_lines-append start a.read 1 a.is_line.before (x ∷ xs) a.is_line.accepted ∙ after_lines-Ok a.read place x xs a.read_next (ap (after_line a.read) is ∙ a.next) in
+      let more = lines_keep (λ s. count a.read_next.draft k ≤ count s.draft k) (count_keeps (count a.read_next.draft k)) a.read_next b.read (place + 1) xs (sym read ∙ b.is_line.accepted) (le_refl _) in
+      omega (arith, more, a.there, b.not_before)
+
+  not_less : length a.is_line.before < length b.is_line.before → ⊥
+  not_less less = by part.middle part.longer part.rest
+    where
+      part : Begins a.is_line.before (a.at ∷ a.is_line.behind) b.is_line.before (b.at ∷ b.is_line.behind)
+      part = begins a.is_line.before (a.at ∷ a.is_line.behind) b.is_line.before (b.at ∷ b.is_line.behind) (sym a.is_line.lines_are ∙ b.is_line.lines_are) (omega (arith, less))
+
+      by : (middle : List (List ℕ)) → b.is_line.before ≡ a.is_line.before ++ middle → a.at ∷ a.is_line.behind ≡ middle ++ b.at ∷ b.is_line.behind → ⊥
+      by [] longer rest = omega (arith, less, ap length longer, length-append a.is_line.before [])
+      by (x ∷ xs) longer rest = behind_line x xs longer (sym (first_same a.at x a.is_line.behind (xs ++ b.at ∷ b.is_line.behind) rest))
+
+pub lines_are_determined : LinesAreDetermined
+lines_are_determined text k number line other a b =
+    let least = not_less text k number line other a b in
+    let most = not_less text k number other line b a in
+    elim (cases_lt (length a.is_line.before) (length b.is_line.before)) [
+      | inl less ↦ absurd (least less)
+      | inr up ↦ elim (cases_lt (length b.is_line.before) (length a.is_line.before)) [
+        | inl more ↦ absurd (most more)
+        | inr down ↦ omega (arith, up, down, a.is_line.line_is, b.is_line.line_is)
+      ]
+    ]
+
+-- ---- the cases
+
+abbrev AreAtRest : Lists → Type 0
+AreAtRest m = All (λ c. is_at_rest c ≡ true) m.cases
+
+at_rest : (b : Bool) → not b ≡ false → b ≡ true
+at_rest true e = refl
+at_rest false e = absurd (cc e)
+
+-- a record that is no loaded case leaves the cases at rest
+added_at_rest : (m : Lists) (r : Record) → is_loaded_case r ≡ false → AreAtRest m → AreAtRest (added m r)
+added_at_rest m (record_of.Material r) rest all = all
+added_at_rest m (record_of.Section r) rest all = all
+added_at_rest m (record_of.Node r) rest all = all
+added_at_rest m (record_of.Element r) rest all = all
+added_at_rest m (record_of.Restraint r) rest all = all
+added_at_rest m (record_of.Case c) rest all = All-push (λ c. is_at_rest c ≡ true) m.cases c all (at_rest (is_at_rest c) rest)
+added_at_rest m (record_of.Force r) rest all = all
+
+-- a record that is taken is added, where it is no loaded case
+judged_at_rest : (m made : Lists) (r : Record) (o : Option ℕ) → judged r o m ≡ Ok made → AreAtRest m → AreAtRest made
+judged_at_rest m made r (Some n) e all = absurd (err_no_ok made n e)
+judged_at_rest m made r None e all =
+    by_test made (is_loaded_case r) (Err 17) (Ok (added m r)) e (λ _ e. absurd (err_no_ok made 17 e))
+    (λ rest e. subst AreAtRest (ok_same (Ok (added m r)) (added m r) made refl e) (added_at_rest m r rest all))
+
+module _ (s t : State) (all : AreAtRest s.draft) where
+  abbrev Kept : State → Type 0
+  Kept u = AreAtRest u.draft
+
+  words_at_rest : (ws : List (List ℕ)) → after_words s ws ≡ Ok t → Kept t
+  words_at_rest ws e =
+      by_test t (length ws == 0) _ _ e (λ _ e. subst Kept (ok_same (Ok s) s t refl e) all) (λ _ e.
+      by_test t s.header _ _ e (λ _ e.
+      by_step t (record_taken s.draft ws) (λ m. Ok (record s { draft = m })) e (λ m is e.
+      by_step m (record_of_words s.draft ws) (taken s.draft) is (λ r found is.
+      subst Kept (ok_same (Ok (record s { draft = m })) (record s { draft = m }) t refl e) (judged_at_rest s.draft m r (refusal s.draft r) is all)))) (λ _ e.
+      by_test t (is_header ws) _ _ e (λ _ e. subst Kept (ok_same (Ok (record s { header = true })) (record s { header = true }) t refl e) all) (λ _ e. absurd (err_no_ok t 3 e))))
+
+  line_at_rest : (line : List ℕ) → after_line s line ≡ Ok t → Kept t
+  line_at_rest line e = by_test t (list_all is_allowed line) _ _ e (λ _ e. words_at_rest (words line) e) (λ _ e. absurd (err_no_ok t 2 e))
+
+pub cases_are_at_rest : CasesAreAtRest
+cases_are_at_rest text m is =
+    lines_keep (λ s. AreAtRest s.draft) (λ s t line e all. line_at_rest s t all line e) start (record { header = true; draft = m }) 1 (lines text) (parsed-stands text m is).accepted.accepted (All-nil (λ c. is_at_rest c ≡ true))
