@@ -20,6 +20,8 @@ mod records;
 #[cfg(test)]
 mod reports;
 #[cfg(test)]
+mod stresses;
+#[cfg(test)]
 mod structures;
 #[cfg(test)]
 mod texts;
