@@ -10,6 +10,8 @@ mod cases;
 #[cfg(test)]
 mod factors;
 #[cfg(test)]
+mod frames;
+#[cfg(test)]
 mod loads;
 #[cfg(test)]
 mod makers;
@@ -21,6 +23,8 @@ mod records;
 mod reports;
 #[cfg(test)]
 mod restraints;
+#[cfg(test)]
+mod stresses;
 #[cfg(test)]
 mod structures;
 #[cfg(test)]
