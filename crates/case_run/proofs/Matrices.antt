@@ -1,5 +1,5 @@
 -- How large the entries of the assembled matrices are.
-use Rattle.std.proofs.Common.{◌≡◌, ℕ, ◌+◌, ◌*◌, ◌^◌, ◌<◌, ◌≤◌, length, List, [], ap, ◌∙◌, Bool, true, false, Ok, Err, nat_lt, refl, subst, arith, unsigned_abs, pos, ◌<ℤ◌, ◌≤ℤ◌, if◌then◌else◌}
+use Rattle.std.proofs.Common.{◌≡◌, ℕ, ◌+◌, ◌*◌, ◌^◌, ◌<◌, ◌≤◌, length, List, [], ap, ◌∙◌, Bool, true, false, Ok, Err, nat_lt, refl, subst, arith, unsigned_abs, ℤ, pos, ◌<ℤ◌, ◌≤ℤ◌, if◌then◌else◌}
 use Rattle.std.proofs.lemmas.Int.{ints}
 use Rattle.std.proofs.lemmas.List.{get_or-replicate}
 use Rattle.std.proofs.lemmas.Bool.Decides.{nat_tests}
