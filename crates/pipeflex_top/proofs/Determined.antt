@@ -1,8 +1,10 @@
 -- A model has one report.
-use Rattle.std.proofs.Common.{◌≡◌, List, refl, sym, ◌∙◌}
+use Rattle.std.proofs.Common.{◌≡◌, List, refl, sym, ap, subst, ◌∙◌}
+use Rattle.accepted_text.specs.Accepted.{OneModelTree}
 use Rattle.flex_io.specs.declared.outcome.Status.{Status}
 use Rattle.flex_io.specs.declared.outcome.Status.TheVariants.{Done, Uncertified, Refused, Usage, ReadFault, WriteFault, NoMemory}
 use Rattle.model_types.specs.declared.answers.CaseAnswer.{CaseAnswer}
+use Rattle.report.specs.Report.{report_of}
 use Rattle.pipeflex_top.specs.Analysis.{EndsWith, ReportIsDetermined, analysis_of}
 
 -- the same answers have one ending
@@ -27,5 +29,7 @@ one_ending answers ReadFault second here also = absurd here
 one_ending answers WriteFault second here also = absurd here
 one_ending answers NoMemory second here also = absurd here
 
-pub one_report : ReportIsDetermined
-one_report m first second status other a b = (a.written ∙ sym b.written, one_ending (analysis_of m) status other a.ends b.ends)
+pub one_report : OneModelTree → ReportIsDetermined
+one_report one_tree m first second status other a b =
+    let same = ap (analysis_of m) (one_tree m a.tree b.tree a.tree_is b.tree_is) in
+    (a.written ∙ ap (report_of m) same ∙ sym b.written, one_ending (analysis_of m b.tree) status other (subst (λ answers. EndsWith answers status) same a.ends) b.ends)

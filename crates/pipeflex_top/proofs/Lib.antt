@@ -1,5 +1,5 @@
 mod Determined
+mod RestLemmas
 mod RunLemmas
 mod TableLemmas
-mod TextOrder
 mod Told

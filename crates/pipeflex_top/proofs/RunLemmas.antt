@@ -6,6 +6,8 @@ use Rattle.std.proofs.lemmas.Fmt.{decimal_injective}
 use Rattle.std.specs.Fmt.{decimal}
 use Rattle.std.specs.Prelude.{slice_index}
 use Rattle.std.specs.Io.KnownBytes.{Consumes}
+use Rattle.accepted_text.specs.Accepted.{IsAcceptedAs, IsRefusedBy, by_grammar, too_broad, too_many, NeverAcceptedAndRefused}
+use Rattle.elim_tree.specs.Fronts.{Fronts}
 use Rattle.flex_io.specs.declared.outcome.Status.{Status}
 use Rattle.flex_io.specs.declared.outcome.Status.TheVariants.{Done, Uncertified, Refused, Usage, ReadFault, WriteFault, NoMemory}
 use Rattle.model_text.specs.Grammar.{Refusal, parsed}
@@ -16,7 +18,7 @@ use Rattle.pipeflex_top.specs.declared.commands.Command.TheVariants.{Members, Ec
 use Rattle.pipeflex_top.specs.Enclosure.{PrintsEnclosures}
 use Rattle.pipeflex_top.specs.Analysis.{IsReport}
 use Rattle.pipeflex_top.specs.Told.{IsReportText}
-use Rattle.pipeflex_top.specs.Run.{Answers, AnswersModel, Ask, AskAnalysis, plain, stated, Asks, Decides, HasForm, IsAnswer, IsOutput, IsRefusedFor, faulty, unbuilt, ReadsText, Takes, IsEnding}
+use Rattle.pipeflex_top.specs.Run.{Answers, AnswersModel, Ask, AskAnalysis, plain, stated, Asks, Decides, HasForm, IsAnswer, IsOutput, ReadsText, IsEnding}
 
 -- the bytes that were taken are the text up to the byte past the limit, so what is left follows them
 pub ReadsText-taken : (left after : Option (List ℕ)) (bytes : List ℕ) → Consumes left after bytes → IfSome left (λ text. bytes ≡ take 4194305 text) → ReadsText left after
@@ -37,24 +39,40 @@ parsed-taken text = elim (cases_lt LIMIT (length text)) [
   | inr short ↦ ap parsed (take_all 4194305 text (omega arith))
 ]
 
--- what the bytes that were taken are judged as
-parsed-whole : (left : Option (List ℕ)) (bytes : List ℕ) → IfSome left (λ text. bytes ≡ take 4194305 text) → IfSome left (λ text. parsed text ≡ parsed bytes)
-parsed-whole None bytes whole = tt
-parsed-whole (Some text) bytes whole = sym (parsed-taken text) ∙ ap parsed (sym whole)
+-- the bytes that were taken are the text, or refused as it is
+taken_cases : (text : List ℕ) → (take 4194305 text ≡ text) ⊎ (parsed (take 4194305 text) ≡ Err (record { number = 1; line = 1 }))
+taken_cases text = elim (cases_lt LIMIT (length text)) [
+  | inl long ↦ inr (parsed_long (take 4194305 text) (omega (arith, length-take 4194305 text)))
+  | inr short ↦ inl (take_all 4194305 text (omega arith))
+]
 
--- the text's judgement is that of the bytes
-judged : {A : Type 0} (left : Option (List ℕ)) (same : List ℕ → A) (bytes : List ℕ) (is : A) → IfSome left (λ text. same text ≡ same bytes) → same bytes ≡ is → IfSome left (λ text. same text ≡ is)
-judged None same bytes is whole here = tt
-judged (Some text) same bytes is whole here = whole ∙ here
+-- a text is accepted as its bytes up to the one past the limit are
+accepted_as : (text : List ℕ) (m : Lists) (t : Fronts) → IsAcceptedAs (take 4194305 text) m t → IsAcceptedAs text m t
+accepted_as text m t accepted = record { text_is = sym (parsed-taken text) ∙ accepted.text_is; tree = accepted.tree }
 
--- a text that is judged as bytes that are refused is refused
-refused_as : (command : Command) (text bytes : List ℕ) (refusal : Refusal) → parsed text ≡ parsed bytes → IsRefusedFor command bytes refusal → IsRefusedFor command text refusal
-refused_as command text bytes refusal same (faulty r err) = faulty r (same ∙ err)
-refused_as command text bytes refusal same (unbuilt m ok other) = unbuilt m (same ∙ ok) other
+pub accepted_whole : (left : Option (List ℕ)) (bytes : List ℕ) (m : Lists) (t : Fronts) → IfSome left (λ text. bytes ≡ take 4194305 text) → IsAcceptedAs bytes m t → IfSome left (λ text. IsAcceptedAs text m t)
+accepted_whole None bytes m t whole accepted = tt
+accepted_whole (Some text) bytes m t whole accepted = accepted_as text m t (subst (λ bs. IsAcceptedAs bs m t) whole accepted)
 
-refused_whole : (command : Command) (left : Option (List ℕ)) (bytes : List ℕ) (refusal : Refusal) → IfSome left (λ text. parsed text ≡ parsed bytes) → IsRefusedFor command bytes refusal → IfSome left (λ text. IsRefusedFor command text refusal)
-refused_whole command None bytes refusal same refused = tt
-refused_whole command (Some text) bytes refusal same refused = refused_as command text bytes refusal same refused
+-- what is refused as too long is that of no model
+long_no_model : (bytes : List ℕ) (m : Lists) (refusal : Refusal) → parsed bytes ≡ Err refusal → parsed bytes ≡ Ok m → ⊥
+long_no_model bytes m refusal err ok = cc (err, ok)
+
+-- and it is refused as they are
+refused_long : (text bytes : List ℕ) (number line : ℕ) (refusal : Refusal) → parsed text ≡ parsed bytes → parsed bytes ≡ Err refusal → IsRefusedBy bytes number line → IsRefusedBy text number line
+refused_long text bytes _ _ refusal same long (by_grammar number line e) = by_grammar number line (same ∙ e)
+refused_long text bytes _ _ refusal same long (too_broad m node line ok broad here) = absurd (long_no_model bytes m refusal long ok)
+refused_long text bytes _ _ refusal same long (too_many m order ok is many) = absurd (long_no_model bytes m refusal long ok)
+
+refused_as : (text : List ℕ) (number line : ℕ) → IsRefusedBy (take 4194305 text) number line → IsRefusedBy text number line
+refused_as text number line refused = elim (taken_cases text) [
+  | inl same ↦ subst (λ bs. IsRefusedBy bs number line) same refused
+  | inr long ↦ refused_long text (take 4194305 text) number line _ (sym (parsed-taken text)) long refused
+]
+
+refused_whole : (left : Option (List ℕ)) (bytes : List ℕ) (number line : ℕ) → IfSome left (λ text. bytes ≡ take 4194305 text) → IsRefusedBy bytes number line → IfSome left (λ text. IsRefusedBy text number line)
+refused_whole None bytes number line whole refused = tt
+refused_whole (Some text) bytes number line whole refused = refused_as text number line (subst (λ bs. IsRefusedBy bs number line) whole refused)
 
 -- the answer to the bytes that were taken is the answer to the words and the source
 pub Answers-taken : (words : List (String Global)) (command : Command) (left after : Option (List ℕ)) (bytes output message : List ℕ) (status : Status)
@@ -65,7 +83,8 @@ Answers-taken words command left after bytes output message Done asked taken who
   asked = asked;
   read = ReadsText-taken left after bytes taken whole;
   model = answer.model;
-  text = judged left parsed bytes _ (parsed-whole left bytes whole) answer.text_is;
+  tree = answer.tree;
+  text = accepted_whole left bytes answer.model answer.tree whole answer.text_is;
   written = answer.written;
   silent = answer.silent;
 }
@@ -74,7 +93,8 @@ Answers-taken words command left after bytes output message Uncertified asked ta
   asked = asked;
   read = ReadsText-taken left after bytes taken whole;
   model = answer.model;
-  text = judged left parsed bytes _ (parsed-whole left bytes whole) answer.text_is;
+  tree = answer.tree;
+  text = accepted_whole left bytes answer.model answer.tree whole answer.text_is;
   written = answer.written;
   silent = answer.silent;
 }
@@ -83,7 +103,7 @@ Answers-taken words command left after bytes output message Refused asked taken 
   asked = asked;
   read = ReadsText-taken left after bytes taken whole;
   refusal = answer.refusal;
-  text = refused_whole command left bytes answer.refusal (parsed-whole left bytes whole) answer.refused;
+  text = refused_whole left bytes answer.refusal.number answer.refusal.line whole answer.refused;
   empty = answer.empty;
   line = answer.line;
 }
@@ -99,15 +119,15 @@ Answers-taken words command left after bytes output message NoMemory asked taken
 
 -- an output ends a run so
 output_ends : (command : Command) (m : Lists) (output : List ℕ) (status : Status) → IsOutput command m output status → IsEnding command status
-output_ends Members m output status written = written.made.2
-output_ends Echo m output status written = written.made.1
+output_ends Members m output status written = written.2
+output_ends Echo m output status written = written.1
 output_ends (Analyse workers) m output Done written = inl refl
 output_ends (Analyse workers) m output Uncertified written = inr refl
-output_ends (Analyse workers) m output Refused written = absurd written.made.0.ends
-output_ends (Analyse workers) m output Usage written = absurd written.made.0.ends
-output_ends (Analyse workers) m output ReadFault written = absurd written.made.0.ends
-output_ends (Analyse workers) m output WriteFault written = absurd written.made.0.ends
-output_ends (Analyse workers) m output NoMemory written = absurd written.made.0.ends
+output_ends (Analyse workers) m output Refused written = absurd written.0.ends
+output_ends (Analyse workers) m output Usage written = absurd written.0.ends
+output_ends (Analyse workers) m output ReadFault written = absurd written.0.ends
+output_ends (Analyse workers) m output WriteFault written = absurd written.0.ends
+output_ends (Analyse workers) m output NoMemory written = absurd written.0.ends
 
 -- the numbers of workers that the words ask for are the same
 one_count : (words : List (List ℕ)) (first second : ℕ) → AskAnalysis words first → AskAnalysis words second → first ≡ second
@@ -136,40 +156,34 @@ one_command words (Analyse n) Members a b = let letter : 109 ≡ 97 = first_lett
 one_command words (Analyse n) Echo a b = let letter : 101 ≡ 97 = first_letter words (codes "echo") n b a in absurd (omega (arith, letter))
 one_command words (Analyse n) (Analyse k) a b = ap Analyse (one_count words n k a b)
 
--- a text is that of one model
-one_model : (text : List ℕ) (first second : Lists) → parsed text ≡ Ok first → parsed text ≡ Ok second → first ≡ second
-one_model text first second a b = cc (a, b)
+-- an output is written for a text that is accepted, and for no other
+module _ (never : NeverAcceptedAndRefused) where
+  Decides-output : (words : List (String Global)) (command : Command) (m : Lists) (t : Fronts) (text output : List ℕ) (status : Status)
+      → Asks words command → IsAcceptedAs text m t → IsOutput command m output status → Decides words status text
+  Decides-output words command m t text output status asked accepted written = record {
+    accepted = λ other n u asks is. inl (subst (λ c. IsEnding c status) (one_command _ command other asked asks) (output_ends command m output status written));
+    refused = λ other number line asks refused. absurd (never text m t number line accepted refused);
+  }
 
--- a text that a command takes isn't refused for it
-not_both : (command : Command) (text : List ℕ) (m : Lists) (refusal : Refusal) → parsed text ≡ Ok m → Takes command m → IsRefusedFor command text refusal → ⊥
-not_both command text m refusal ok taken (faulty r err) = absurd (cc (ok, err))
-not_both command text m refusal ok taken (unbuilt other also untaken) = untaken (subst (Takes command) (one_model text m other ok also) taken)
-
--- an output is written for a text that the command takes, and for no other
-Decides-output : (words : List (String Global)) (command : Command) (m : Lists) (text output : List ℕ) (status : Status)
-    → Asks words command → parsed text ≡ Ok m → IsOutput command m output status → Decides words status text
-Decides-output words command m text output status asked ok written = record {
-  accepted = λ other n asks is taken. inl (subst (λ c. IsEnding c status) (one_command _ command other asked asks) (output_ends command m output status written));
-  refused = λ other refusal asks refused. absurd (not_both command text m refusal ok written.taken (subst (λ c. IsRefusedFor c text refusal) (sym (one_command _ command other asked asks)) refused));
-}
-
--- where the words have a form and no fault comes, the words and the text decide
-pub Decides-answer : (words : List (String Global)) (left after : Option (List ℕ)) (output message : List ℕ) (status : Status)
-    → Answers words left after output message status → HasForm words → status ≢ ReadFault → IfSome left (Decides words status)
-Decides-answer words None after output message status answers form sound = tt
-Decides-answer words (Some text) after output message Done answers form sound = Decides-output words answers.command answers.model text output Done answers.asked answers.text answers.written
-Decides-answer words (Some text) after output message Uncertified answers form sound = Decides-output words answers.command answers.model text output Uncertified answers.asked answers.text answers.written
-Decides-answer words (Some text) after output message Refused answers form sound = record {
-  accepted = λ command m asks ok taken. absurd (not_both command text m answers.refusal ok taken (subst (λ c. IsRefusedFor c text answers.refusal) (one_command _ answers.command command answers.asked asks) answers.text));
-  refused = λ command refusal asks refused. inl refl;
-}
-Decides-answer words (Some text) after output message Usage answers form sound = absurd (answers.0 form)
-Decides-answer words (Some text) after output message ReadFault answers form sound = absurd (sound refl)
-Decides-answer words (Some text) after output message WriteFault answers form sound = absurd answers
-Decides-answer words (Some text) after output message NoMemory answers form sound = record {
-  accepted = λ command m asks ok taken. inr refl;
-  refused = λ command refusal asks refused. inr refl;
-}
+  -- where the words have a form and no fault comes, the words and the text decide
+  pub Decides-answer : (words : List (String Global)) (left after : Option (List ℕ)) (output message : List ℕ) (status : Status)
+      → Answers words left after output message status → HasForm words → status ≢ ReadFault → IfSome left (Decides words status)
+  Decides-answer words None after output message status answers form sound = tt
+  Decides-answer words (Some text) after output message Done answers form sound =
+      Decides-output words answers.command answers.model answers.tree text output Done answers.asked answers.text answers.written
+  Decides-answer words (Some text) after output message Uncertified answers form sound =
+      Decides-output words answers.command answers.model answers.tree text output Uncertified answers.asked answers.text answers.written
+  Decides-answer words (Some text) after output message Refused answers form sound = record {
+    accepted = λ command m t asks accepted. absurd (never text m t answers.refusal.number answers.refusal.line accepted answers.text);
+    refused = λ command number line asks refused. inl refl;
+  }
+  Decides-answer words (Some text) after output message Usage answers form sound = absurd (answers.0 form)
+  Decides-answer words (Some text) after output message ReadFault answers form sound = absurd (sound refl)
+  Decides-answer words (Some text) after output message WriteFault answers form sound = absurd answers
+  Decides-answer words (Some text) after output message NoMemory answers form sound = record {
+    accepted = λ command m t asks accepted. inr refl;
+    refused = λ command number line asks refused. inr refl;
+  }
 
 -- the answer to words of no form is their usage
 pub usage-answer : (words : List (String Global)) (left after : Option (List ℕ)) (output message : List ℕ) (status : Status)
@@ -189,14 +203,14 @@ enclosed-answer words None after output message status answers done members = tt
 enclosed-answer words (Some text) after output message status answers done members =
     let model = subst (Answers words (Some text) after output message) done answers in
     let made = subst (λ command. IsOutput command model.model output Done) (one_command _ model.command Members model.asked members) model.written in
-    subst (λ judged. IfOk judged PrintsEnclosures) (sym model.text) made.made.1
+    subst (λ judged. IfOk judged PrintsEnclosures) (sym model.text.text_is) made.1
 
 -- where the report was written, it is that of the model
 certified-model : (words : List (String Global)) (text output message : List ℕ) (after : Option (List ℕ)) (status : Status) (workers : ℕ)
     → AnswersModel words (Some text) after output message status → Asks words (Analyse workers) → IfOk (parsed text) (λ m. IsReport m output status × IsReportText m output)
 certified-model words text output message after status workers model asks =
     let made = subst (λ command. IsOutput command model.model output status) (one_command _ model.command (Analyse workers) model.asked asks) model.written in
-    subst (λ judged. IfOk judged (λ m. IsReport m output status × IsReportText m output)) (sym model.text) made.made
+    subst (λ judged. IfOk judged (λ m. IsReport m output status × IsReportText m output)) (sym model.text.text_is) made
 
 pub certified-answer : (words : List (String Global)) (left after : Option (List ℕ)) (output message : List ℕ) (status : Status) (workers : ℕ)
     → Answers words left after output message status → Asks words (Analyse workers) → (status ≡ Done) ⊎ (status ≡ Uncertified)

@@ -1,17 +1,25 @@
 -- The report of an analysis.
-use Rattle.std.specs.Prelude.{◌≡◌, ℕ, ⊤, List, [], ◌∷◌, Some, None, All}
-use Rattle.case_run.specs.Causes.{Plan, plan}
+use Rattle.std.specs.Prelude.{◌≡◌, ℕ, ⊤, List, length, true, All}
+use Rattle.accepted_text.specs.Accepted.{IsModelTree}
+use Rattle.case_run.specs.Causes.{plan}
 use Rattle.case_run.specs.Answers.{answers_of}
+use Rattle.elim_tree.specs.Fronts.{Fronts, parents_in}
 use Rattle.flex_io.specs.declared.Status.{Status}
 use Rattle.flex_io.specs.declared.Status.TheVariants.{Done, Uncertified}
+use Rattle.lists.specs.Order.{IsOrder}
+use Rattle.model_text.specs.Lines.{is_at_rest}
 use Rattle.model_types.specs.Lists.{Lists}
 use Rattle.model_types.specs.declared.answers.CaseAnswer.{CaseAnswer}
 use Rattle.model_types.specs.declared.answers.CaseAnswer.TheVariants as answer
 use Rattle.report.specs.Report.{report_of}
 
--- two nodes are eliminated in text order: the parent of the first is the second
-abbrev pub text_order : Plan
-text_order = plan (0 ∷ 1 ∷ []) (Some 1 ∷ None ∷ [])
+-- a model may be analysed in the order of a tree: the tree is the model's, its order has each node once, and nothing but forces acts
+-- in the cases
+pub record MayAnalyse (m : Lists) (t : Fronts) : Type 0 where
+  pub tree : IsModelTree m t
+  pub permutation : IsOrder t.order
+  pub nodes : length t.order ≡ length m.nodes
+  pub at_rest : All (λ c. is_at_rest c ≡ true) m.cases
 
 -- the case has a certificate
 abbrev pub IsCertifiedAnswer : CaseAnswer → Type 0
@@ -24,14 +32,16 @@ EndsWith answers Done = All IsCertifiedAnswer answers
 EndsWith answers Uncertified = ¬ (All IsCertifiedAnswer answers)
 EndsWith answers _ = ⊥
 
--- the answers of the cases of a model that is analysed
-abbrev pub analysis_of : Lists → List CaseAnswer
-analysis_of m = answers_of m text_order
+-- the answers of the cases of a model whose nodes are eliminated in the order of a tree
+abbrev pub analysis_of : Lists → Fronts → List CaseAnswer
+analysis_of m t = answers_of m (plan t.order (parents_in t))
 
--- the output is the report of the answers of the model's cases, and the run ends as they say
+-- the output is the report of the answers of the model's cases, by its assembly tree, and the run ends as they say
 pub record IsReport (m : Lists) (output : List ℕ) (status : Status) : Type 0 where
-  pub written : output ≡ report_of m (analysis_of m)
-  pub ends : EndsWith (analysis_of m) status
+  pub tree : Fronts
+  pub tree_is : IsModelTree m tree
+  pub written : output ≡ report_of m (analysis_of m tree)
+  pub ends : EndsWith (analysis_of m tree) status
 
 -- a model has one report, and a run that writes it one ending
 abbrev pub ReportIsDetermined : Type 0

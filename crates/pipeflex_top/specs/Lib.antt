@@ -1,7 +1,6 @@
 pub mod Analysis
 pub mod Enclosure
 pub mod MemberTable
-pub mod OneStraight
 pub mod Refusal
 pub mod Run
 pub mod Told

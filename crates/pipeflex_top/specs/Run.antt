@@ -1,13 +1,15 @@
 -- What a run of the program does, by its words and the text that its source has left.
-use Rattle.std.specs.Prelude.{◌≡◌, ◌≢◌, ℕ, ◌≤◌, ◌⊎◌, ⊤, List, [], ◌∷◌, ◌++◌, Option, Some, IfSome, Ok, Err, String, string_bytes, map, drop, codes}
+use Rattle.std.specs.Prelude.{◌≡◌, ◌≢◌, ℕ, ◌≤◌, ◌⊎◌, List, [], ◌∷◌, ◌++◌, Option, Some, IfSome, String, string_bytes, map, drop, codes}
 use Rattle.std.specs.Fmt.{decimal}
 use Rattle.std.specs.Global.{Global}
+use Rattle.accepted_text.specs.Accepted.{IsAcceptedAs, IsRefusedBy}
+use Rattle.elim_tree.specs.Fronts.{Fronts}
 use Rattle.flex_io.specs.declared.Status.{Status}
 use Rattle.flex_io.specs.declared.Status.TheVariants.{Done, Uncertified, Refused, Usage, ReadFault, WriteFault, NoMemory}
 use Rattle.flex_io.specs.Fault.{Rose}
 use Rattle.flex_io.specs.Source.{ConsumesAtMost}
 use Rattle.model_text.specs.Canonical.{canonical}
-use Rattle.model_text.specs.Grammar.{Refusal, parsed}
+use Rattle.model_text.specs.Grammar.{Refusal}
 use Rattle.model_types.specs.Lists.{Lists}
 use Rattle.pipeflex_top.specs.declared.commands.Command.{Command}
 use Rattle.pipeflex_top.specs.declared.commands.Command.TheVariants.{Members, Echo, Analyse}
@@ -17,7 +19,6 @@ use Rattle.pipeflex_top.specs.Analysis.{IsReport}
 use Rattle.pipeflex_top.specs.Told.{IsReportText}
 use Rattle.pipeflex_top.specs.Enclosure.{PrintsEnclosures}
 use Rattle.pipeflex_top.specs.MemberTable.{table_of}
-use Rattle.pipeflex_top.specs.OneStraight.{IsOneStraight}
 use Rattle.pipeflex_top.specs.Refusal.{refusal_line}
 
 -- ---- the words
@@ -59,40 +60,25 @@ message_bytes (Built bytes) = bytes.items
 
 -- ---- the answer to a text
 
--- the models that a command takes
-abbrev pub Takes : Command → Lists → Type 0
-Takes Members m = ⊤
-Takes Echo m = ⊤
-Takes (Analyse workers) m = IsOneStraight m
-
 -- what a command makes of a model, and how a run ends that has written it: the member table, the canonical text, or the
 -- report, in which each case that the text calls certified has every equilibrium between the numbers that stand there
-abbrev pub IsOutputOf : Command → Lists → List ℕ → Status → Type 0
-IsOutputOf Members m output status = (output ≡ table_of m) × PrintsEnclosures m × (status ≡ Done)
-IsOutputOf Echo m output status = (output ≡ canonical m) × (status ≡ Done)
-IsOutputOf (Analyse workers) m output status = IsReport m output status × IsReportText m output
+abbrev pub IsOutput : Command → Lists → List ℕ → Status → Type 0
+IsOutput Members m output status = (output ≡ table_of m) × PrintsEnclosures m × (status ≡ Done)
+IsOutput Echo m output status = (output ≡ canonical m) × (status ≡ Done)
+IsOutput (Analyse workers) m output status = IsReport m output status × IsReportText m output
 
--- the output is the command's on a model that it takes, and the run ends so
-pub record IsOutput (command : Command) (m : Lists) (output : List ℕ) (status : Status) : Type 0 where
-  pub taken : Takes command m
-  pub made : IsOutputOf command m output status
-
--- the text is refused for a command: by its grammar, or because the command doesn't take its model yet
-pub data IsRefusedFor (command : Command) (text : List ℕ) : Refusal → Type 0 where
-  faulty : (refusal : Refusal) → parsed text ≡ Err refusal → IsRefusedFor command text refusal
-  unbuilt : (m : Lists) → parsed text ≡ Ok m → ¬ (Takes command m) → IsRefusedFor command text (record { number = 17; line = 1 })
-
--- the text is that of a model that the command takes, and the output is the command's on it
+-- the text is accepted with a model, and the output is the command's on it
 pub record IsAccepted (command : Command) (text output message : List ℕ) (status : Status) : Type 0 where
   pub model : Lists
-  pub text_is : parsed text ≡ Ok model
+  pub tree : Fronts
+  pub text_is : IsAcceptedAs text model tree
   pub written : IsOutput command model output status
   pub silent : message ≡ []
 
 -- the text is refused, and the message is the line that tells so
-pub record IsRefused (command : Command) (text output message : List ℕ) : Type 0 where
+pub record IsRefused (text output message : List ℕ) : Type 0 where
   pub refusal : Refusal
-  pub refused : IsRefusedFor command text refusal
+  pub refused : IsRefusedBy text refusal.number refusal.line
   pub empty : output ≡ []
   pub line : message ≡ refusal_line refusal
 
@@ -100,7 +86,7 @@ pub record IsRefused (command : Command) (text output message : List ℕ) : Type
 abbrev pub IsAnswer : Command → List ℕ → List ℕ → List ℕ → Status → Type 0
 IsAnswer command text output message Done = IsAccepted command text output message Done
 IsAnswer command text output message Uncertified = IsAccepted command text output message Uncertified
-IsAnswer command text output message Refused = IsRefused command text output message
+IsAnswer command text output message Refused = IsRefused text output message
 IsAnswer command text output message NoMemory = (output ≡ []) × (message ≡ [])
 IsAnswer command text output message _ = ⊥
 
@@ -116,7 +102,8 @@ pub record AnswersModel (words : List (String Global)) (left after : Option (Lis
   pub asked : Asks words command
   pub read : ReadsText left after
   pub model : Lists
-  pub text : IfSome left (λ text. parsed text ≡ Ok model)
+  pub tree : Fronts
+  pub text : IfSome left (λ text. IsAcceptedAs text model tree)
   pub written : IsOutput command model output status
   pub silent : message ≡ []
 
@@ -126,7 +113,7 @@ pub record AnswersRefusal (words : List (String Global)) (left after : Option (L
   pub asked : Asks words command
   pub read : ReadsText left after
   pub refusal : Refusal
-  pub text : IfSome left (λ text. IsRefusedFor command text refusal)
+  pub text : IfSome left (λ text. IsRefusedBy text refusal.number refusal.line)
   pub empty : output ≡ []
   pub line : message ≡ refusal_line refusal
 
@@ -158,8 +145,7 @@ IsEnding Members status = status ≡ Done
 IsEnding Echo status = status ≡ Done
 IsEnding (Analyse workers) status = (status ≡ Done) ⊎ (status ≡ Uncertified)
 
--- where nothing fails: for the text of a model that the command takes, an ending of the command; Refused for a text that is
--- refused; or memory ran out
+-- where nothing fails: for a text that is accepted, an ending of the command; Refused for a text that is refused; or memory ran out
 pub record Decides (words : List (String Global)) (status : Status) (text : List ℕ) : Type 0 where
-  pub accepted : (command : Command) (m : Lists) → Asks words command → parsed text ≡ Ok m → Takes command m → IsEnding command status ⊎ (status ≡ NoMemory)
-  pub refused : (command : Command) (refusal : Refusal) → Asks words command → IsRefusedFor command text refusal → (status ≡ Refused) ⊎ (status ≡ NoMemory)
+  pub accepted : (command : Command) (m : Lists) (t : Fronts) → Asks words command → IsAcceptedAs text m t → IsEnding command status ⊎ (status ≡ NoMemory)
+  pub refused : (command : Command) (number line : ℕ) → Asks words command → IsRefusedBy text number line → (status ≡ Refused) ⊎ (status ≡ NoMemory)

@@ -1,19 +1,20 @@
 //! The report of the analysis of a model.
 ghost use Rattle.std.specs.Prelude.{◌≡◌, ◌↔◌, IfOk, IsTrue, All};
-ghost use Rattle.pipeflex_top.specs.Analysis.{IsReport, EndsWith, IsCertifiedAnswer};
+ghost use Rattle.pipeflex_top.specs.Analysis.{MayAnalyse, IsReport, EndsWith, IsCertifiedAnswer};
 ghost use Rattle.pipeflex_top.specs.Told.{IsReportText};
-ghost use Rattle.pipeflex_top.specs.OneStraight.{IsOneStraight};
 
 use crate::written::Written;
 use case_run::answers;
+use elim_tree::Tree;
 use flex_io::Status;
 use model_types::{CaseAnswer, Model, NoMemory};
 use report::bytes;
 use std::alloc::Global;
 
-/// The report of a model, and how the run ends that has written it.
-pub fn analysis(alloc: Global, model: &Model) -> Result<Written, NoMemory>
-    requires { IsOneStraight model.now }
+/// The report of a model, whose nodes are eliminated in the order of its assembly tree, and how the run ends that has written
+/// it.
+pub fn analysis(alloc: Global, model: &Model, tree: &Tree) -> Result<Written, NoMemory>
+    requires { MayAnalyse model.now tree.now }
     ensures { IfOk result (λ written. IsReport model.now written.bytes.items written.status
         × IsReportText model.now written.bytes.items) }
 {
@@ -23,7 +24,7 @@ pub fn analysis(alloc: Global, model: &Model) -> Result<Written, NoMemory>
     report::printed_pairs_hold();
     // What every model keeps: its rules.
     let _nodes = model.nodes();
-    let answers = answers(alloc, model, &[0, 1], &[Some(1), None])?;
+    let answers = answers(alloc, model, tree.order(), tree.node_parents())?;
     let status = ending_with(&answers);
     let bytes = bytes(alloc, model, &answers)?;
     Ok(Written { bytes, status })

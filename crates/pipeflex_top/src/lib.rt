@@ -5,7 +5,6 @@ mod analysis;
 mod commands;
 mod laws;
 mod member_table;
-mod one_straight;
 mod process;
 mod program;
 mod refusal;

@@ -11,6 +11,7 @@ ghost use Rattle.pipeflex_top.specs.Enclosure.{PrintsEnclosures};
 ghost use Rattle.pipeflex_top.specs.Run.{Answers, Asks, Decides, HasForm, TellsReadFault, message_bytes};
 
 use crate::reply::{Reply, reply_to};
+use accepted_text::acceptance_is_determined;
 use flex_io::{Gate, Sink, Source, Status, put_all};
 use std::alloc::Global;
 use std::thread::Threads;
@@ -86,6 +87,8 @@ pub fn run<R: Threads + Sync, S: Source, K: Sink, E: Sink, G: Gate>(
         → ¬ Rose (E.faults err.old) (E.faults err.new)
         → IfSome (S.left source.old) (Decides words.now result) }
 {
+    // The law that no text is both accepted and refused.
+    acceptance_is_determined();
     let reply = reply_to(alloc, words, source);
     deliver(&reply, out, err)
 }

@@ -1,16 +1,18 @@
 //! What the program has to say, before the first byte of it is written.
-ghost use Rattle.std.specs.Prelude.{◌≡◌, ◌≤◌, ◌↔◌, ℕ, List, [], IfOk, IsTrue, Ok};
-ghost use Rattle.model_text.specs.Grammar.{parsed};
-ghost use Rattle.pipeflex_top.specs.Run.{Answers, HasForm, IsAnswer, IsOutput, IsRefusedFor, Takes, TellsReadFault, message_bytes};
+ghost use Rattle.std.specs.Prelude.{◌≡◌, ◌≤◌, ℕ, List, [], IfOk};
+ghost use Rattle.accepted_text.specs.Accepted.{IsAcceptedAs, IsRefusedBy};
+ghost use Rattle.pipeflex_top.specs.Analysis.{MayAnalyse};
+ghost use Rattle.pipeflex_top.specs.Run.{Answers, HasForm, IsAnswer, IsOutput, TellsReadFault, message_bytes};
 
 use crate::analysis::analysis;
 use crate::commands::{Command, command_of};
 use crate::member_table::member_table;
-use crate::one_straight::is_one_straight;
 use crate::refusal::refusal_line;
 use crate::written::Written;
+use accepted_text::{AcceptFault, accept};
+use elim_tree::Tree;
 use flex_io::{Source, Status, TakeFault, take_all};
-use model_text::{TextFault, echo, read};
+use model_text::{cases_are_at_rest, echo};
 use model_types::{Model, NoMemory};
 use std::alloc::{AllocError, Global};
 
@@ -73,42 +75,22 @@ pub fn reply_to<S: Source>(alloc: Global, words: &[String], source: &mut S) -> R
 fn answer(alloc: Global, command: Command, text: &[u8]) -> Reply
     ensures { IsAnswer command text.now result.output.items (message_bytes result.message) result.status }
 {
-    match read(alloc, text) {
-        Ok(model) => judged(alloc, command, &model),
-        Err(TextFault::Refused { number, line }) => refused(alloc, number, line),
-        Err(TextFault::NoMemory) => line_only(alloc, Status::NoMemory, b""),
+    // The law that the cases of a text are at rest.
+    cases_are_at_rest();
+    match accept(alloc, text) {
+        Ok(accepted) => reply_on(alloc, command, &accepted.model, &accepted.tree),
+        Err(AcceptFault::Refused { number, line }) => refused(alloc, number, line),
+        Err(AcceptFault::NoMemory) => line_only(alloc, Status::NoMemory, b""),
     }
 }
 
-// The reply to the text of a model.
-fn judged(alloc: Global, command: Command, model: &Model) -> Reply
-    ensures { (text : List ℕ) → parsed text ≡ Ok model.now
+// The reply to a text that is accepted with this model and tree.
+fn reply_on(alloc: Global, command: Command, model: &Model, tree: &Tree) -> Reply
+    requires { MayAnalyse model.now tree.now }
+    ensures { (text : List ℕ) → IsAcceptedAs text model.now tree.now
         → IsAnswer command text result.output.items (message_bytes result.message) result.status }
 {
-    if !takes(command, model) {
-        return refused(alloc, 17, 1);
-    }
-    accepted(alloc, command, model)
-}
-
-// Whether the command takes the model.
-fn takes(command: Command, model: &Model) -> bool
-    ensures { IsTrue result ↔ Takes command model.now }
-{
-    match command {
-        Command::Members => true,
-        Command::Echo => true,
-        Command::Analyse { .. } => is_one_straight(model),
-    }
-}
-
-// The reply to the text of a model that the command takes.
-fn accepted(alloc: Global, command: Command, model: &Model) -> Reply
-    requires { Takes command model.now }
-    ensures { (text : List ℕ) → parsed text ≡ Ok model.now
-        → IsAnswer command text result.output.items (message_bytes result.message) result.status }
-{
-    match output(alloc, command, model) {
+    match output(alloc, command, model, tree) {
         Ok(written) => Reply {
             status: written.status,
             output: written.bytes,
@@ -119,14 +101,14 @@ fn accepted(alloc: Global, command: Command, model: &Model) -> Reply
 }
 
 // What the command makes of a model.
-fn output(alloc: Global, command: Command, model: &Model) -> Result<Written, NoMemory>
-    requires { Takes command model.now }
+fn output(alloc: Global, command: Command, model: &Model, tree: &Tree) -> Result<Written, NoMemory>
+    requires { MayAnalyse model.now tree.now }
     ensures { IfOk result (λ written. IsOutput command model.now written.bytes.items written.status) }
 {
     match command {
         Command::Members => done(member_table(alloc, model)?),
         Command::Echo => done(echo(alloc, model)?),
-        Command::Analyse { .. } => analysis(alloc, model),
+        Command::Analyse { .. } => analysis(alloc, model, tree),
     }
 }
 
@@ -142,7 +124,7 @@ fn done(bytes: Vec<u8>) -> Result<Written, NoMemory>
 
 // The reply to a text that is refused by this number at this line.
 fn refused(alloc: Global, number: u8, line: u32) -> Reply
-    ensures { (command : Command) → (text : List ℕ) → IsRefusedFor command text (record { number = number; line = line })
+    ensures { (command : Command) → (text : List ℕ) → IsRefusedBy text number line
         → IsAnswer command text result.output.items (message_bytes result.message) result.status }
 {
     match refusal_line(alloc, number, line) {

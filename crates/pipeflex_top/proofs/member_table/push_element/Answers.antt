@@ -1,10 +1,6 @@
-use Rattle.std.proofs.Common.{◌≡◌, ◌≤◌, List, ◌++◌, length, Ok, subst, sym, ◌∙◌, arith}
+use Rattle.std.proofs.Common.{◌≡◌, ◌++◌, Ok, subst, sym, ◌∙◌}
 use Rattle.std.specs.List.{flat_map}
 use Rattle.text_words.specs.Fields.{line}
-use Rattle.member_set.specs.declared.members.Member.{Member}
-use Rattle.model_types.specs.declared.records.Shape.{Shape}
-use Rattle.model_types.specs.declared.records.Shape.TheVariants.{Straight}
-use Rattle.model_types.specs.MemberCounts.{shape_member_count}
 use Rattle.structure.specs.Elements.{members_of_element}
 use Rattle.pipeflex_top.specs.MemberTable.{element_lines}
 use Rattle.pipeflex_top.proofs.TableLemmas.{element_written}

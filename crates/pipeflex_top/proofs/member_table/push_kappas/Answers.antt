@@ -1,7 +1,4 @@
-use Rattle.std.proofs.Common.{◌≡◌, ◌<◌, ◌++◌, length, sym, subst, arith}
-use Rattle.text_words.specs.Fields.{line}
-use Rattle.member_set.specs.declared.members.Member.{Member}
-use Rattle.pipeflex_top.specs.MemberTable.{kappa_words}
+use Rattle.std.proofs.Common.{◌<◌, length, arith}
 use Rattle.pipeflex_top.proofs.TableLemmas.{member_written}
 use Rattle.pipeflex_top.proofs.member_table.push_kappas.Goals as goal
 

@@ -40,7 +40,7 @@ returns-clause-decided g c = λ form source out err.
     let whole : c.deliver.result ≢ WriteFault = λ broke. elim (c.deliver.ensures.write_fault broke) [ inl rose ↦ out rose | inr rose ↦ err rose ] in
     let same = c.deliver.ensures.status whole in
     let sound : c.deliver.result ≢ ReadFault = λ read. source (reply.ensures.read_fault.rose (sym same ∙ read)) in
-    Decides-answer _ _ _ _ _ _ (subst (Answers _ _ _ _ _) (sym same) reply.ensures.answers) form sound
+    Decides-answer c.acceptance_is_determined.ensures.never_both _ _ _ _ _ _ (subst (Answers _ _ _ _ _) (sym same) reply.ensures.answers) form sound
 
 pub returns-clause-enclosed : goal.returns-clause-enclosed
 returns-clause-enclosed g c = λ done members.
