@@ -172,7 +172,73 @@ end
 const USAGE: &str =
     "usage: pipeflex analyse [--workers N] | members | echo | generate M | summary M [--workers N]\n";
 
-const UNBUILT: &str = "refused 17 line 1 unbuilt\n";
+// Without a case nothing is asked of the model.
+const NO_CASE_REPORT: &str = "pipeflex report 1\nmodel 2 1 0 0 0\nend\n";
+
+// A cantilever of 2 m in two straights, and F = 2,810 N down at its end. The textbook has F L^3 / 3 E I and F L^2 / 2 E I at the end,
+// F L^2 (3 - 1) / 6 E I and F L (2 L - L / 2) / 2 E I in the middle; the anchor's F / K and F L / K come to it.
+const LINE: &str = "\
+node c 2000000 0 0
+straight q b c s
+anchor A a - -
+case tip 0 0 0 0 0 0
+force tip c 0 0 -2810000 0 0 0
+";
+
+const LINE_REPORT: &str = "\
+pipeflex report 1
+model 3 2 1 1 0
+case tip certified
+node a -1 1 -1 1 -282 -280 -1 1 561 563 -1 1
+node b -1 1 -1 1 -4040820 -4040819 -1 1 7272519 7272520 -1 1
+node c -1 1 -1 1 -12929330 -12929329 -1 1 9696505 9696506 -1 1
+restraint A -1 1 -1 1 -2810001 -2809999 -1 1 5619999 5620001 -1 1
+end
+";
+
+// A cantilever with a spring of 1 N/um along (3, 0, 4) at its end, and 2,249 N down there; and one with a spring of 1,000,000 N m against
+// the rotation about y, and 2,290 N down. Solved from the textbook's stiffness of a straight, to 60 digits, by a few lines of Python.
+const SLOPED: &str = "\
+anchor A a - -
+linear R b 3 0 4 1000000
+case tip 0 0 0 0 0 0
+force tip b 0 0 -2249000 0 0 0
+";
+
+const SLOPED_REPORT: &str = "\
+pipeflex report 1
+model 2 1 2 1 0
+case tip certified
+node a 45 46 -1 1 -165 -164 -1 1 164 165 -1 1
+node b 847 848 -1 1 -945818 -945817 -1 1 1418397 1418398 -1 1
+restraint A 453687 453688 -1 1 -1644084 -1644083 -1 1 1644083 1644084 -1 1
+restraint R -756146 -756145
+end
+";
+
+const TURNED: &str = "\
+anchor A a - -
+twist T b 0 1 0 1000000
+case tip 0 0 0 0 0 0
+force tip b 0 0 -2290000 0 0 0
+";
+
+const TURNED_REPORT: &str = "\
+pipeflex report 1
+model 2 1 2 1 0
+case tip certified
+node a -1 1 -1 1 -230 -228 -1 1 156 157 -1 1
+node b -1 1 -1 1 -692001 -692000 -1 1 724913 724914 -1 1
+restraint A -1 1 -1 1 -2290001 -2289999 -1 1 1565086 1565087 -1 1
+restraint T 724913 724914
+end
+";
+
+const SECTION: &str = "\
+pipeflex 1
+material st 200000 300 12000 7850
+section s st 100000 10000 0 0
+";
 
 // The words as a command line has them.
 fn line_of(alloc: Global, words: &[&str]) -> Result<Vec<String>, AllocError> {
@@ -237,11 +303,15 @@ fn answers_words(rt: HostRuntime) -> Result<(), Fail> {
             (STRAIGHT, ""),
             (Status::Usage, "", USAGE),
         ),
-        (&["analyse"], (STRAIGHT, ""), (Status::Refused, "", UNBUILT)),
+        (
+            &["analyse"],
+            (STRAIGHT, ""),
+            (Status::Done, NO_CASE_REPORT, ""),
+        ),
         (
             &["analyse", "--workers", "64"],
             (STRAIGHT, ""),
-            (Status::Refused, "", UNBUILT),
+            (Status::Done, NO_CASE_REPORT, ""),
         ),
         (
             &["analyse", "--workers", "0"],
@@ -330,7 +400,7 @@ fn writes_tables_and_texts(rt: HostRuntime) -> Result<(), Fail> {
 
 #[test]
 fn refuses_one_more_line(rt: HostRuntime) -> Result<(), Fail> {
-    let rows: [Row; 9] = [
+    let rows: [Row; 4] = [
         // A line more that is refused.
         (
             &["echo"],
@@ -351,47 +421,6 @@ fn refuses_one_more_line(rt: HostRuntime) -> Result<(), Fail> {
             &["echo"],
             (HEAD, "section t st 100000 50000 0 0\n"),
             (Status::Refused, "", "refused 13 line 5 walltoothick\n"),
-        ),
-        // Models that are not analysed.
-        (
-            &["analyse"],
-            (
-                HEAD,
-                "node b 1000000 0 0\nstraight p a b s\nanchor A a - -\n",
-            ),
-            (Status::Refused, "", UNBUILT),
-        ),
-        (
-            &["analyse"],
-            (
-                HEAD,
-                "node b 1000000 0 0\nstraight p a b s\ncase rest 0 0 0 0 0 0\n",
-            ),
-            (Status::Refused, "", UNBUILT),
-        ),
-        (
-            &["analyse"],
-            (
-                HEAD,
-                "node b 1000000 1000000 0\nstraight p a b s\nanchor A a - -\ncase rest 0 0 0 0 0 0\n",
-            ),
-            (Status::Refused, "", UNBUILT),
-        ),
-        (
-            &["analyse"],
-            (
-                HEAD,
-                "node b 1000000 0 0\nanchor A a - -\ncase rest 0 0 0 0 0 0\n",
-            ),
-            (Status::Refused, "", UNBUILT),
-        ),
-        (
-            &["analyse"],
-            (
-                HEAD,
-                "node b 1000000 0 0\nstraight p a b s\nlinear A a 1 0 0 -\ncase rest 0 0 0 0 0 0\n",
-            ),
-            (Status::Refused, "", UNBUILT),
         ),
     ];
     for (words, text, want) in rows {
@@ -495,6 +524,166 @@ fn analyses_one_straight(rt: HostRuntime) -> Result<(), Fail> {
         answers(&rt, rt.alloc(), words, text, want)?;
     }
     Ok(())
+}
+
+#[test]
+fn analyses_whole_models(rt: HostRuntime) -> Result<(), Fail> {
+    let rows: [Row; 3] = [
+        (
+            &["analyse"],
+            (STRAIGHT, LINE),
+            (Status::Done, LINE_REPORT, ""),
+        ),
+        (
+            &["analyse"],
+            (STRAIGHT, SLOPED),
+            (Status::Done, SLOPED_REPORT, ""),
+        ),
+        (
+            &["analyse"],
+            (STRAIGHT, TURNED),
+            (Status::Done, TURNED_REPORT, ""),
+        ),
+    ];
+    for (words, text, want) in rows {
+        answers(&rt, rt.alloc(), words, text, want)?;
+    }
+    Ok(())
+}
+
+#[test]
+fn tells_what_floats(rt: HostRuntime) -> Result<(), Fail> {
+    let rows: [Row; 6] = [
+        // The straight from c to d.
+        (
+            &["analyse"],
+            (
+                STRAIGHT,
+                "anchor A a - -\ncase rest 0 0 0 0 0 0\nnode c 0 5000000 0\nnode d 1000000 5000000 0\nstraight q c d s\n",
+            ),
+            (
+                Status::Uncertified,
+                "pipeflex report 1\nmodel 4 2 1 1 0\ncase rest uncertified pivot d ux\nend\n",
+                "",
+            ),
+        ),
+        // All of it, all but a slide along x, and a node that no element touches.
+        (
+            &["analyse"],
+            (STRAIGHT, "case rest 0 0 0 0 0 0\n"),
+            (
+                Status::Uncertified,
+                "pipeflex report 1\nmodel 2 1 0 1 0\ncase rest uncertified pivot b ux\nend\n",
+                "",
+            ),
+        ),
+        (
+            &["analyse"],
+            (STRAIGHT, "linear A a 1 0 0 -\ncase rest 0 0 0 0 0 0\n"),
+            (
+                Status::Uncertified,
+                "pipeflex report 1\nmodel 2 1 1 1 0\ncase rest uncertified pivot b uy\nend\n",
+                "",
+            ),
+        ),
+        (
+            &["analyse"],
+            (
+                HEAD,
+                "node b 1000000 0 0\nanchor A a - -\ncase rest 0 0 0 0 0 0\n",
+            ),
+            (
+                Status::Uncertified,
+                "pipeflex report 1\nmodel 2 0 1 1 0\ncase rest uncertified pivot b ux\nend\n",
+                "",
+            ),
+        ),
+        // A slanted straight at rest, and one that is held, without a case.
+        (
+            &["analyse"],
+            (SLANTED, "anchor A a - -\ncase rest 0 0 0 0 0 0\n"),
+            (
+                Status::Done,
+                "pipeflex report 1\nmodel 2 1 1 1 0\ncase rest certified\nnode a 0 0 0 0 0 0 0 0 0 0 0 0\nnode b 0 0 0 0 0 0 0 0 0 0 0 0\nrestraint A 0 0 0 0 0 0 0 0 0 0 0 0\nend\n",
+                "",
+            ),
+        ),
+        (
+            &["analyse"],
+            (STRAIGHT, "anchor A a - -\n"),
+            (
+                Status::Done,
+                "pipeflex report 1\nmodel 2 1 1 0 0\nend\n",
+                "",
+            ),
+        ),
+    ];
+    for (words, text, want) in rows {
+        answers(&rt, rt.alloc(), words, text, want)?;
+    }
+    Ok(())
+}
+
+// So many nodes, one to a line, at different places.
+fn push_nodes(alloc: Global, text: &mut Vec<u8>, count: u32) -> Result<(), AllocError> {
+    for n in 0..count {
+        let line = format!(in alloc; "node n{n} 1{n} 0 0\n")?;
+        text.extend_from_slice(line.as_bytes())?;
+    }
+    Ok(())
+}
+
+// A straight from the node of that number to each before it.
+fn push_straights(alloc: Global, text: &mut Vec<u8>, n: u32) -> Result<(), AllocError> {
+    for k in 0..n {
+        let line = format!(in alloc; "straight p{n}-{k} n{n} n{k} s\n")?;
+        text.extend_from_slice(line.as_bytes())?;
+    }
+    Ok(())
+}
+
+// Behind a head 33 nodes with a straight between any two.
+fn complete(alloc: Global, head: &str) -> Result<Vec<u8>, AllocError> {
+    let mut text = SECTION.as_bytes().to_vec(alloc)?;
+    text.extend_from_slice(head.as_bytes())?;
+    push_nodes(alloc, &mut text, 33)?;
+    for n in 1..33 {
+        push_straights(alloc, &mut text, n)?;
+    }
+    Ok(text)
+}
+
+// The text of a head and such nodes is refused under each word that reads a text.
+fn all_refuse<R: Threads + Sync + Abort>(
+    rt: &R,
+    alloc: Global,
+    head: &str,
+    message: &str,
+) -> Result<(), Fail> {
+    for word in ["members", "echo", "analyse"] {
+        let line = line_of(alloc, &[word])?;
+        let mut source = SafeSource::new(complete(alloc, head)?);
+        ends(
+            rt,
+            alloc,
+            &line,
+            &mut source,
+            (Status::Refused, "", message),
+        )?;
+    }
+    Ok(())
+}
+
+#[test]
+fn refuses_a_broad_front(rt: HostRuntime) -> Result<(), Fail> {
+    all_refuse(&rt, rt.alloc(), "", "refused 16 line 4 front\n")?;
+    // The first node of the text has no straights, and is eliminated before.
+    all_refuse(
+        &rt,
+        rt.alloc(),
+        "node z 0 0 0\n",
+        "refused 16 line 5 front\n",
+    )
 }
 
 #[test]
