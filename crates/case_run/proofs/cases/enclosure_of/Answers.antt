@@ -21,7 +21,7 @@ enclose-requires-clause-system c =
     is_system c.args.m.now c.args.case.0 c.args.shared.now.b _ _ c.requires.ready.structure (c.deref-3.ensures.value ∙ c.requires.ready.laws) loads
 
 pub enclose-requires-clause-states : goal.enclose-requires-clause-states
-enclose-requires-clause-states c = no_states_at_rest c.args.shared.now.b _ c.requires.ready.structure.linear (c.deref-3.ensures.value ∙ c.requires.ready.laws)
+enclose-requires-clause-states c = no_states_at_rest c.args.shared.now.b _ c.requires.ready.linear (c.deref-3.ensures.value ∙ c.requires.ready.laws)
 
 pub returns-in_err-loads : goal.returns-in_err-loads
 returns-in_err-loads c =
@@ -66,7 +66,7 @@ returns-in_err-enclose c =
     let has : HasFactor c.args.m.now p c.args.case.0 b loads c.in-Ok.factor = record { loaded = loads_given c.args.m.now c.args.case.0 loads c.in_ok-loads.ensures.loads; order = factor.0; factor = factor.1 } in
     let turned = turns_given (solved b loads c.in-Ok.factor) 8 u (record { ordered = fit.ordered; size = ap (λ (n : ℕ). 6 * n) fit.nodes_are }) found in
     tells_also _ _ _ (λ e is. case_by_bounds c.args.m.now p c.args.case.0 b c.args.shared.now.lambda loads c.in-Ok.factor u has turned ∙ is)
-    (tells_bounds _ u c.args.shared.now.lambda c.in_err-enclose.field-0.0 c.requires.ready.structure.linear tells))
+    (tells_bounds _ u c.args.shared.now.lambda c.in_err-enclose.field-0.0 c.requires.ready.linear tells))
 
 pub returns : goal.returns
 returns c =
@@ -81,4 +81,4 @@ returns c =
     let factor = rw c.in-Ok.is at unshifted in
     let has : HasFactor c.args.m.now p c.args.case.0 b loads c.in-Ok.factor = record { loaded = loads_given c.args.m.now c.args.case.0 loads c.in_ok-loads.ensures.loads; order = factor.0; factor = factor.1 } in
     let turned = turns_given (solved b loads c.in-Ok.factor) 8 u (record { ordered = fit.ordered; size = ap (λ (n : ℕ). 6 * n) fit.nodes_are }) found in
-    case_bounds c.args.m.now p c.args.case.0 b c.args.shared.now.lambda loads c.in-Ok.factor u _ has turned (bounds_given _ u c.args.shared.now.lambda _ (without_states _ u c.args.shared.now.lambda _ c.requires.ready.structure.linear bounds))
+    case_bounds c.args.m.now p c.args.case.0 b c.args.shared.now.lambda loads c.in-Ok.factor u _ has turned (bounds_given _ u c.args.shared.now.lambda _ (without_states _ u c.args.shared.now.lambda _ c.requires.ready.linear bounds))
