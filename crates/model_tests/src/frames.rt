@@ -21,8 +21,10 @@ fn answers_of(rt: &impl Abort, alloc: Global, frame: &str) -> Vec<CaseAnswer> {
     text.push_str(frame).expect(rt, "memory");
     let accepted = accept(alloc, text.as_bytes()).expect(rt, "a model and its tree");
     check_all_forces(rt, &accepted.model);
-    let tree = &accepted.tree;
-    answers(alloc, &accepted.model, tree.order(), tree.node_parents()).expect(rt, "memory")
+    let order = accepted.tree.order();
+    let parents = accepted.tree.node_parents();
+    assert!(rt; parents.len() == order.len(), "a parent each");
+    answers(alloc, &accepted.model, order, parents).expect(rt, "memory")
 }
 
 // The first case of a frame is certified, and its bounds enclose these numbers closely.
