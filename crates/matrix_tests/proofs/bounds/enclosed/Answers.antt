@@ -28,5 +28,5 @@ first_state first o unilateral states few one counted (suc k) = (
 )
 
 pub enclose-requires-clause-states : goal.enclose-requires-clause-states
-enclose-requires-clause-states c = λ k inside.
+enclose-requires-clause-states g c = λ k inside.
     first_state c.args.first _ c.in_ok-structure.structure.unilateral c.states_of.result c.states_of.ensures.few c.states_of.ensures.one c.in_ok-structure.ensures.states k
