@@ -624,6 +624,37 @@ fn tells_what_floats(rt: HostRuntime) -> Result<(), Fail> {
     Ok(())
 }
 
+// An arm of 20 m on an anchor of 1 N/m and 1 N m/rad, which turns with the stiffness of 2^20 / (20^2 + 20.001^2 + 3) = 1,306
+// units, between the shifts of 2^10 and of 2^12. At its end stands a stub of 1 mm, whose 12 E I / L^3 is known to a few
+// million units, more than the last shift makes up for; the rows before it hold exact or nearly exact numbers.
+const SOFT_ARM: &str = "\
+pipeflex 1
+material st 200000 300 12000 7850
+section s st 100000 10000 0 0
+section thin st 10000 1000 0 0
+node a 0 0 0
+node b 20000000 0 0
+node c 20001000 0 0
+straight p a b s
+straight q b c thin
+anchor A a 1 1
+";
+
+#[test]
+fn tells_a_margin(rt: HostRuntime) -> Result<(), Fail> {
+    answers(
+        &rt,
+        rt.alloc(),
+        &["analyse"],
+        (SOFT_ARM, "case rest 0 0 0 0 0 0\n"),
+        (
+            Status::Uncertified,
+            "pipeflex report 1\nmodel 3 2 1 1 0\ncase rest uncertified margin b uy\nend\n",
+            "",
+        ),
+    )
+}
+
 // So many nodes, one to a line, at different places.
 fn push_nodes(alloc: Global, text: &mut Vec<u8>, count: u32) -> Result<(), AllocError> {
     for n in 0..count {
