@@ -1,4 +1,3 @@
-pub mod BlockLemmas
 pub mod StorageLemmas
 pub mod AddLemmas
 pub mod NewLemmas

@@ -1,25 +1,24 @@
 ghost use Rattle.lists.specs.Lists.{contents, list_of, LinksLists};
-ghost use Rattle.std.specs.Prelude.{◌≡◌, ◌∷◌, ◌↔◌, OnOk, ℕ, ◌+◌, ◌*◌, ◌/◌, ◌^◌, ◌<◌, IfOk, Contains, All, ℤ, pos, ◌+ℤ◌, length, slice_index_or, [], replicate};
+ghost use Rattle.lists.specs.Order.{place_of};
 ghost use Rattle.lists.specs.Rising.{IsRising};
-ghost use Rattle.sym_blocks.specs.Storage.{own_lists_of, zero_block, zero_blocks_of, stored, IsLayout, IsStorage, AddsToStored, AddsBoth};
+ghost use Rattle.std.specs.Prelude.{◌≡◌, ◌∷◌, ◌↔◌, OnOk, ℕ, suc, ◌+◌, ◌*◌, ◌/◌, ◌^◌, ◌<◌, ◌≤◌, IfOk, Contains, All, ℤ, pos, ◌+ℤ◌, length, slice_index_or, [], replicate};
 ghost use Rattle.std.specs.Int.RustNames.{unsigned_abs};
+ghost use Rattle.sym_blocks.specs.Storage.{own_lists_of, zero_triangle_of, flat_index, lower_entry, IsPattern, IsStorage, AddsToLower};
 
-use lists::{find_rising, link_pairs};
+use lists::{find_rising, freedom_of, link_pairs, node_of};
 use std::alloc::{AllocError, Global};
 use std::marker::Model;
 
 /// Memory ran out.
 pub type NoMemory = AllocError;
 
-/// Six rows of six entries.
-type Block = [[i128; 6]; 6];
-
 /// A symmetric matrix of whole numbers on a pattern of 6 by 6 blocks: a node's own block, and one for each pair
-/// of nodes that is joined. Row `6 n + f` is freedom f of node n. Memory goes with the pairs, not with the square.
+/// of nodes that is joined. Row `6 n + f` is freedom f of node n. Memory goes with the pairs, not with the square: the
+/// blocks on and below the diagonal are stored, each 36 numbers.
 #[derive(Drop)]
 pub struct SymBlocks {
     neighbours: Vec<Vec<u32>>,
-    blocks: Vec<Vec<Block>>,
+    triangle: Vec<Vec<i128>>,
 }
 
 impl Model for SymBlocks {
@@ -29,9 +28,9 @@ impl Model for SymBlocks {
 
     ghost Value = { Matrix };
 
-    ghost view = { λ s. stored_matrix (contents s.neighbours.items) (contents s.blocks.items) };
+    ghost view = { λ s. stored_matrix (contents s.neighbours.items) (contents s.triangle.items) };
 
-    ghost invariant = { λ s. IsStorage (contents s.neighbours.items) (contents s.blocks.items) };
+    ghost invariant = { λ s. IsStorage (contents s.neighbours.items) (contents s.triangle.items) };
 }
 
 impl SymBlocks {
@@ -47,8 +46,11 @@ impl SymBlocks {
     {
         let mut neighbours = own_lists(alloc, nodes)?;
         link_pairs(&mut neighbours, pairs)?;
-        let blocks = zero_blocks(alloc, &neighbours)?;
-        Ok(SymBlocks { neighbours, blocks })
+        let triangle = zero_triangle(alloc, &neighbours)?;
+        Ok(SymBlocks {
+            neighbours,
+            triangle,
+        })
     }
 
     /// The entry in a row and a column, and 0 outside the pattern.
@@ -56,9 +58,21 @@ impl SymBlocks {
         ensures value { result ≡ entry self.now row col }
         ensures kept { IsSymmetricByBlocks self.now }
     {
-        match find_rising(self.pattern(row / 6), col / 6) {
-            Some(place) => self.blocks[(row / 6) as usize][place][(row % 6) as usize][(col
-                % 6) as usize],
+        if row < col {
+            self.lower(col, row)
+        } else {
+            self.lower(row, col)
+        }
+    }
+
+    // The entry in a row and a column that is no greater.
+    fn lower(&self, row: u32, col: u32) -> i128
+        requires { col ≤ row }
+        ensures value { result ≡ entry self.now row col }
+        ensures kept { IsSymmetricByBlocks self.now }
+    {
+        match find_rising(self.pattern(node_of(row)), node_of(col)) {
+            Some(place) => self.triangle[node_of(row) as usize][index(place, row, col)],
             None => 0,
         }
     }
@@ -70,7 +84,11 @@ impl SymBlocks {
         ensures added { AddsAt self.old self.new row col v }
         ensures kept { IsSymmetricByBlocks self.new }
     {
-        add_both(&self.neighbours, &mut self.blocks, row, col, v);
+        if row < col {
+            add_lower(&self.neighbours, &mut self.triangle, col, row, v);
+        } else {
+            add_lower(&self.neighbours, &mut self.triangle, row, col, v);
+        }
     }
 
     /// The nodes whose block with this node is in the pattern, rising.
@@ -96,50 +114,50 @@ fn own_lists(alloc: Global, nodes: u32) -> Result<Vec<Vec<u32>>, AllocError>
     Ok(lists)
 }
 
-// A block of zeros beside each node of each list.
-fn zero_blocks(alloc: Global, lists: &[Vec<u32>]) -> Result<Vec<Vec<Block>>, AllocError>
-    ensures { IfOk result (λ blocks. contents blocks.items ≡ zero_blocks_of (contents lists.now)) }
+// For each node a row of zeros, as long as the blocks beside the nodes of its list up to itself.
+fn zero_triangle(alloc: Global, lists: &[Vec<u32>]) -> Result<Vec<Vec<i128>>, AllocError>
+    requires count { length lists.now < 2 ^ 32 }
+    requires pattern { IsPattern (contents lists.now) }
+    ensures { IfOk result (λ triangle. contents triangle.items ≡ zero_triangle_of (contents lists.now)) }
 {
-    let mut blocks = Vec::with_capacity(alloc, lists.len())?;
-    for list in lists {
-        blocks.push(zero_row(alloc, list.len())?)?;
+    let mut triangle = Vec::with_capacity(alloc, lists.len())?;
+    for node in 0..lists.len() {
+        let blocks = count_up_to(&lists[node], node as u32);
+        triangle.push(vec![in alloc; 0; 36 * blocks]?)?;
     }
-    Ok(blocks)
+    Ok(triangle)
 }
 
-fn zero_row(alloc: Global, count: usize) -> Result<Vec<Block>, AllocError>
-    ensures { IfOk result (λ row. row.items ≡ replicate count zero_block) }
+// How many numbers of a rising list stand up to one of them.
+fn count_up_to(list: &[u32], number: u32) -> usize
+    requires rising { IsRising list.now }
+    requires listed { Contains list.now number }
+    ensures { result ≡ suc (place_of number list.now) }
 {
-    let mut row = Vec::with_capacity(alloc, count)?;
-    for _place in 0..count {
-        row.push([[0; 6]; 6])?;
+    match find_rising(list, number) {
+        Some(place) => place + 1,
+        None => 0,
     }
-    Ok(row)
 }
 
-// Adds to a stored entry and to its mirror.
-fn add_both(lists: &[Vec<u32>], blocks: &mut [Vec<Block>], row: u32, col: u32, v: i128)
-    requires storage { IsStorage (contents lists.now) (contents blocks.old) }
+// Where an entry stands in its node's row, in the block at a place.
+fn index(place: usize, row: u32, col: u32) -> usize
+    requires { place < 2 ^ 32 }
+    ensures { result ≡ flat_index place row col }
+{
+    36 * place + 6 * freedom_of(row) as usize + freedom_of(col) as usize
+}
+
+// Adds to one entry of the lower triangle.
+fn add_lower(lists: &[Vec<u32>], triangle: &mut [Vec<i128>], row: u32, col: u32, v: i128)
+    requires lower { col ≤ row }
+    requires storage { IsStorage (contents lists.now) (contents triangle.old) }
     requires listed { Contains (list_of (contents lists.now) (row / 6)) (col / 6) }
-    requires small { unsigned_abs (stored (contents lists.now) (contents blocks.old) row col +ℤ v) < 2 ^ 126 }
-    ensures storage { IsStorage (contents lists.now) (contents blocks.new) }
-    ensures added { AddsBoth (contents lists.now) (contents blocks.old) (contents blocks.new) row col v }
+    requires small { unsigned_abs (lower_entry (contents lists.now) (contents triangle.old) row col +ℤ v) < 2 ^ 126 }
+    ensures storage { IsStorage (contents lists.now) (contents triangle.new) }
+    ensures added { AddsToLower (contents lists.now) (contents triangle.old) (contents triangle.new) row col v }
 {
-    add_at(lists, blocks, row, col, v);
-    if row != col {
-        add_at(lists, blocks, col, row, v);
-    }
-}
-
-// Adds to one stored entry.
-fn add_at(lists: &[Vec<u32>], blocks: &mut [Vec<Block>], row: u32, col: u32, v: i128)
-    requires layout { IsLayout (contents lists.now) (contents blocks.old) }
-    requires listed { Contains (list_of (contents lists.now) (row / 6)) (col / 6) }
-    requires small { unsigned_abs (stored (contents lists.now) (contents blocks.old) row col +ℤ v) < 2 ^ 126 }
-    ensures layout { IsLayout (contents lists.now) (contents blocks.new) }
-    ensures added { AddsToStored (contents lists.now) (contents blocks.old) (contents blocks.new) row col v }
-{
-    if let Some(place) = find_rising(&lists[(row / 6) as usize], col / 6) {
-        blocks[(row / 6) as usize][place][(row % 6) as usize][(col % 6) as usize] += v;
+    if let Some(place) = find_rising(&lists[node_of(row) as usize], node_of(col)) {
+        triangle[node_of(row) as usize][index(place, row, col)] += v;
     }
 }
