@@ -9,3 +9,5 @@ pub mod MarkLemmas
 pub mod ReachedLemmas
 pub mod StartLemmas
 pub mod DeterminedLemmas
+pub mod ChosenLemmas
+pub mod ExistLemmas

@@ -3,3 +3,4 @@ pub mod Order
 pub mod Queue
 pub mod State
 pub mod Determined
+pub mod Exist

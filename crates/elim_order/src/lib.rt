@@ -8,5 +8,5 @@ mod queue;
 mod rounds;
 
 pub use fault::OrderFault;
-pub use laws::orders_are_determined;
+pub use laws::{orders_are_determined, orders_exist};
 pub use rounds::order;

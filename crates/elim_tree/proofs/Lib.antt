@@ -6,3 +6,4 @@ pub mod PartLemmas
 pub mod ShapeLemmas
 pub mod LawLemmas
 pub mod JoinedLemmas
+pub mod ExistLemmas

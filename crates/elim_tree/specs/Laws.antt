@@ -1,5 +1,5 @@
 -- The laws of assembly trees.
-use Rattle.std.specs.Prelude.{◌≡◌, ◌≢◌, ℕ, ◌*◌, ◌/◌, ◌<◌, List, length, slice_index, Contains, ℤ, pos}
+use Rattle.std.specs.Prelude.{◌≡◌, ◌≢◌, ℕ, ◌*◌, ◌/◌, ◌<◌, List, length, slice_index, Contains, ◌⊎◌, ℤ, pos}
 use Rattle.lists.specs.Lists.{list_of}
 use Rattle.cholesky_laws.specs.Recurrence.{cholesky, scaled_stiffness}
 use Rattle.cholesky_laws.specs.Fill.{IsOnPattern}
@@ -16,6 +16,10 @@ OneTree = (pairs others : List (ℕ × ℕ)) (order : List ℕ) (t u : Fronts) �
 -- an order never has a tree and too many entries for one
 abbrev pub NeverTooMany : Type 0
 NeverTooMany = (pairs others : List (ℕ × ℕ)) (order : List ℕ) (t : Fronts) → LinkAlike pairs others → IsTreeOf (placed (links pairs) order) order t → HasManyEntries (placed (links others) order) (length order) → ⊥
+
+-- an order has a tree, or too many entries for one
+abbrev pub TreeOrTooMany : Type 0
+TreeOrTooMany = (pairs : List (ℕ × ℕ)) (order : List ℕ) → ((t : Fronts) × IsTreeOf (placed (links pairs) order) order t) ⊎ HasManyEntries (placed (links pairs) order) (length order)
 
 -- the parents are those of the elimination
 abbrev pub ParentsAreOfElimination : Type 0

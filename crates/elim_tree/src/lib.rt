@@ -11,4 +11,4 @@ mod parts;
 pub use build::tree;
 pub use fault::TreeFault;
 pub use fronts::Tree;
-pub use laws::{fill_lies_in_rows, trees_are_determined};
+pub use laws::{fill_lies_in_rows, trees_are_determined, trees_exist};
