@@ -1,2 +1,3 @@
 pub mod RoundedTable
 pub mod ArcLemmas
+pub mod SineLaw

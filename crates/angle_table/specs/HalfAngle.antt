@@ -1,5 +1,5 @@
 -- Half of a bend's angle, its cosine and its sine, by the half-angle formulas. The bend's angle is in thousandths of a degree.
-use Rattle.std.specs.Prelude.{◌≡◌, ℕ, ◌*◌, ◌^◌, Bool, ◌==◌, ◌||◌, pos, Result, Ok, if◌then◌else◌}
+use Rattle.std.specs.Prelude.{◌≡◌, ℕ, ◌*◌, ◌^◌, Bool, ◌==◌, ◌||◌, pos, ◌≤ℤ◌, Result, Ok, if◌then◌else◌}
 use Rattle.flex_interval.specs.Ends.{Ends}
 use Rattle.flex_interval.specs.Operations.{point_of, add_of, sub_of, ratio_of, sqrt_of}
 use Rattle.lists.specs.Results.{and_then}
@@ -55,3 +55,13 @@ pub record HalfEnds (angle : ℕ) (h : Half) : Type 0 where
   pub a : ratio_of pi_ends (pos angle) (pos 360000) ≡ Ok h.a
   pub cos : cosine_of angle ≡ Ok h.cos
   pub sin : sine_of angle ≡ Ok h.sin
+
+-- the ends of a sine rise, from 0 to 1
+pub record IsSine (sine : Ends) : Type 0 where
+  pub least : pos 0 ≤ℤ sine.lo
+  pub ordered : sine.lo ≤ℤ sine.hi
+  pub most : sine.hi ≤ℤ pos (2 ^ 56)
+
+-- so do those of the half of every angle
+abbrev pub SinesAreSines : Type 0
+SinesAreSines = (angle : ℕ) (sine : Ends) → sine_of angle ≡ Ok sine → IsSine sine

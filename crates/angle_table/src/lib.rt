@@ -4,6 +4,7 @@
 ghost use Rattle.std.specs.Prelude.{◌≡◌, ◌*◌, ◌^◌, pos};
 ghost use Rattle.int_laws.specs.Division.{floor_of, ceil_of};
 ghost use Rattle.flex_interval.specs.Fraction.{Fraction, Within, scaled};
+ghost use Rattle.angle_table.specs.HalfAngle.{SinesAreSines};
 ghost use Rattle.angle_table.specs.Pi.{pi_ends, IsPi};
 
 mod angle;
@@ -25,3 +26,8 @@ pub fn pi() -> Iv
         hi: 226_375_608_064_910_089,
     }
 }
+
+/// The law of the table's sines: each interval has its ends in order, from 0 to 1.
+pub fn sines_are_sines()
+    ensures { SinesAreSines }
+{}

@@ -6,19 +6,19 @@ use Rattle.std.specs.List.{list_all}
 use Rattle.std.specs.Str.{bytes_eq}
 use Rattle.model_types.specs.declared.records.Record.{Record}
 use Rattle.model_types.specs.declared.records.Record.TheVariants as record_of
-use Rattle.model_types.specs.Kinds.{Kind, material_kind, section_kind, node_kind, element_kind, restraint_kind, case_kind, force_kind, place, kind_of, count}
+use Rattle.model_types.specs.Kinds.{Kind, material_kind, section_kind, node_kind, element_kind, tee_kind, restraint_kind, case_kind, force_kind, place, kind_of, count}
 use Rattle.model_types.specs.Lists.{Lists, no_records, added}
 use Rattle.model_types.specs.Refusals.{refusal}
 use Rattle.model_text.specs.Fields.{◌>>=◌, refuse_if}
 use Rattle.text_words.specs.Fields.{lines}
-use Rattle.model_text.specs.Grammar.{after_lines, parsed, IsLineOf}
+use Rattle.model_text.specs.Grammar.{after_lines, IsLineOf}
 use Rattle.model_text.specs.Lines.{State, start, after_line, after_words, is_header, is_loaded_case, is_of_kind, judged, makes, taken, record_taken}
 use Rattle.model_text.specs.Records.{is_unbuilt, record_of_words, record_under}
 use Rattle.model_text.specs.Rows.{Field, form_of, kind_made, row, row_width, width, Values, made, read_field, read_row, record_in}
 use Rattle.model_text.specs.declared.records.Form.{Form}
 use Rattle.model_text.specs.declared.records.Form.TheVariants as form
 use Rattle.model_text.specs.Words.{words, word, is_allowed}
-use Rattle.model_text.proofs.LineLemmas.{ok_same, err_no_ok, empty_list, after_lines-nil, after_lines-Ok, after_lines-Err, after_lines-append, length-lines, accepted-short, accepted-lines}
+use Rattle.model_text.proofs.LineLemmas.{ok_same, err_no_ok, empty_list, after_lines-nil, after_lines-Ok, after_lines-Err, after_lines-append, length-lines, some_ok}
 
 abbrev pub one_if : Bool → ℕ
 one_if b = if b then 1 else 0
@@ -54,9 +54,14 @@ kind_of_made form.Material vs = refl
 kind_of_made form.Section vs = refl
 kind_of_made form.Node vs = refl
 kind_of_made form.Straight vs = refl
+kind_of_made form.Bend vs = refl
+kind_of_made form.Tee vs = refl
 kind_of_made form.Anchor vs = refl
 kind_of_made form.Linear vs = refl
 kind_of_made form.Twist vs = refl
+kind_of_made form.Oneway vs = refl
+kind_of_made form.Gap vs = refl
+kind_of_made form.Hanger vs = refl
 kind_of_made form.Case vs = refl
 kind_of_made form.Force vs = refl
 
@@ -70,6 +75,8 @@ count_added m (record_of.Node r) node_kind = length-append m.nodes (r ∷ [])
 count_added m (record_of.Node r) k = omega arith
 count_added m (record_of.Element r) element_kind = length-append m.elements (r ∷ [])
 count_added m (record_of.Element r) k = omega arith
+count_added m (record_of.Tee r) tee_kind = length-append m.tees (r ∷ [])
+count_added m (record_of.Tee r) k = omega arith
 count_added m (record_of.Restraint r) restraint_kind = length-append m.restraints (r ∷ [])
 count_added m (record_of.Restraint r) k = omega arith
 count_added m (record_of.Case r) case_kind = length-append m.cases (r ∷ [])
@@ -133,11 +140,12 @@ pub record IsReadUpTo (text : List ℕ) (left : List (List ℕ)) (k : Kind) (n m
   pub counted : made ≡ count read.draft k
   pub not_before : made ≤ number
 
-none_counted : (k : Kind) → 0 ≡ count no_records k
+pub none_counted : (k : Kind) → 0 ≡ count no_records k
 none_counted material_kind = refl
 none_counted section_kind = refl
 none_counted node_kind = refl
 none_counted element_kind = refl
+none_counted tee_kind = refl
 none_counted restraint_kind = refl
 none_counted case_kind = refl
 none_counted force_kind = refl
@@ -147,7 +155,7 @@ pub IsReadUpTo-none : (text : List ℕ) (k : Kind) (number : ℕ) → IsReadUpTo
 IsReadUpTo-none text k number = record { before = []; read = start; lines_are = refl; line_is = omega arith; accepted = after_lines-nil start 1; counted = none_counted k; not_before = omega arith }
 
 module _ (text : List ℕ) (left : List (List ℕ)) (k : Kind) (n made number : ℕ) (up_to : IsReadUpTo text left k n made number)
-    (accepted : IsOkAnd (parsed text) (λ m. number < count m k)) where
+    (short : length text ≤ 4194304) (accepted : IsOkAnd (after_lines start 1 (lines text)) (λ s. number < count s.draft k)) where
   -- the whole text is read as the lines left are after these
   after_left : after_lines start 1 (lines text) ≡ after_lines up_to.read n left
   after_left =
@@ -157,7 +165,7 @@ module _ (text : List ℕ) (left : List (List ℕ)) (k : Kind) (n made number : 
   -- some line makes each record
   pub some_left : left ≡ [] → ⊥
   some_left none =
-      let all = accepted-lines (λ m. number < count m k) text accepted in
+      let all = some_ok (λ s. number < count s.draft k) (after_lines start 1 (lines text)) accepted in
       let same : all.0 ≡ up_to.read =
       ok_same (after_lines start 1 (lines text)) all.0 up_to.read all.1 (after_left ∙ ap (after_lines up_to.read n) none ∙ after_lines-nil up_to.read n) in
       let there : number < count up_to.read.draft k = subst (λ s. number < count s.draft k) same all.2 in
@@ -166,7 +174,6 @@ module _ (text : List ℕ) (left : List (List ℕ)) (k : Kind) (n made number : 
   -- the number of a line fits
   pub line_small : n ≤ 4194306
   line_small =
-      let short = accepted-short (λ m. number < count m k) text accepted in
       omega (arith, up_to.line_is, ap length up_to.lines_are, length-append up_to.before left, length-lines text, short)
 
   module _ (at : List ℕ) (behind : List (List ℕ)) (next : left ≡ at ∷ behind) where
@@ -174,7 +181,7 @@ module _ (text : List ℕ) (left : List (List ℕ)) (k : Kind) (n made number : 
     next_made : (r : Result State ℕ) → after_line up_to.read at ≡ r → (new : State) × (after_line up_to.read at ≡ Ok new)
     next_made (Ok new) e = (new, e)
     next_made (Err refusal) e =
-        let all = accepted-lines (λ m. number < count m k) text accepted in
+        let all = some_ok (λ s. number < count s.draft k) (after_lines start 1 (lines text)) accepted in
         let refused = after_left ∙ ap (after_lines up_to.read n) next ∙ after_lines-Err up_to.read n at behind refusal e in
         absurd (err_no_ok all.0 (record { number = refusal; line = n }) (sym refused ∙ all.1))
 

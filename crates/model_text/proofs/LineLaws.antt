@@ -1,19 +1,19 @@
 -- What holds of all lines of a text: a record is made by one of them, and a case that is read is at rest.
-use Rattle.std.proofs.Common.{◌≡◌, ◌<◌, ◌≤◌, ℕ, ◌+◌, ◌==◌, Bool, true, false, not, List, [], ◌∷◌, ◌++◌, length, length-append, All, Option, Some, None, Result, Ok, Err, inl, inr, subst, refl, sym, ap, ◌∙◌, le_refl, arith}
-use Rattle.std.proofs.lemmas.Bool.{cases_lt}
+use Rattle.std.proofs.Common.{◌≡◌, ◌<◌, ◌≤◌, ℕ, zero, suc, ◌+◌, ◌==◌, Bool, true, false, not, List, [], ◌∷◌, ◌++◌, length, length-append, All, Option, Some, None, Result, Ok, Err, inl, inr, subst, refl, sym, ap, ◌∙◌, le_refl, arith}
+use Rattle.std.proofs.lemmas.Bool.{cases_lt, cond-true, cond-false}
 use Rattle.std.proofs.lemmas.List.Elements.{All-push, All-nil}
-use Rattle.std.specs.List.{list_all}
+use Rattle.std.specs.List.{list_all, slice_index_or}
 use Rattle.model_types.specs.declared.records.Record.{Record}
 use Rattle.model_types.specs.declared.records.Record.TheVariants as record_of
 use Rattle.model_types.specs.Kinds.{Kind, count}
-use Rattle.model_types.specs.Lists.{Lists, added}
+use Rattle.model_types.specs.Lists.{Lists, no_records, added}
 use Rattle.model_types.specs.Refusals.{refusal}
 use Rattle.text_words.specs.Fields.{lines}
-use Rattle.model_text.specs.Grammar.{after_lines, IsLineOf, LinesAreDetermined, CasesAreAtRest}
-use Rattle.model_text.specs.Lines.{State, start, after_line, after_words, is_at_rest, is_header, is_loaded_case, judged, record_taken, taken}
+use Rattle.model_text.specs.Grammar.{after_lines, IsLineOf, LinesAreDetermined, LinesAreTold, CasesAreAtRest}
+use Rattle.model_text.specs.Lines.{State, start, after_line, after_words, is_at_rest, is_header, is_loaded_case, judged, makes, making, record_taken, taken}
 use Rattle.model_text.specs.Records.{record_of_words}
-use Rattle.model_text.specs.Words.{words, is_allowed}
-use Rattle.model_text.proofs.KindLines.{by_test, by_step, line_made}
+use Rattle.model_text.specs.Words.{words, word, is_allowed}
+use Rattle.model_text.proofs.KindLines.{by_test, by_step, line_made, one_if, none_counted}
 use Rattle.model_text.proofs.LineLemmas.{ok_same, err_no_ok, after_lines-nil, after_lines-Ok, after_lines-Err, after_lines-append, parsed-stands}
 
 -- ---- what every accepted line keeps
@@ -85,6 +85,98 @@ lines_are_determined text k number line other a b =
       ]
     ]
 
+-- ---- the line that the grammar tells
+
+-- the line that makes a record, where the reading begins with s at line n
+record LineFrom (s : State) (n : ℕ) (all : List (List ℕ)) (k : Kind) (number line : ℕ) : Type 0 where
+  before : List (List ℕ)
+  at : List ℕ
+  behind : List (List ℕ)
+  read : State
+  read_next : State
+  lines_are : all ≡ before ++ at ∷ behind
+  line_is : line ≡ length before + n
+  accepted : after_lines s n before ≡ Ok read
+  next : after_line read at ≡ Ok read_next
+  not_before : count read.draft k ≤ number
+  there : number < count read_next.draft k
+
+module _ (k : Kind) where
+  abbrev told : ℕ → ℕ → List (List ℕ) → ℕ
+  told q n all = slice_index_or (making k n all) q 1
+
+  -- a line behind the first
+  behind_first : (s u : State) (n : ℕ) (x : List ℕ) (xs : List (List ℕ)) (number other line : ℕ) → after_line s x ≡ Ok u → number ≡ other → LineFrom u (n + 1) xs k number line
+      → LineFrom s n (x ∷ xs) k other line
+  behind_first s u n x xs number other line is same later = record {
+    before = x ∷ later.before;
+    at = later.at;
+    behind = later.behind;
+    read = later.read;
+    read_next = later.read_next;
+    lines_are = ap (λ l. x ∷ l) later.lines_are;
+    line_is = omega (arith, later.line_is);
+    accepted = after_lines-Ok s n x later.before u is ∙ later.accepted;
+    next = later.next;
+    not_before = omega (arith, same, later.not_before);
+    there = omega (arith, same, later.there);
+  }
+
+  by_making : (s u t : State) (n : ℕ) (x : List ℕ) (xs : List (List ℕ)) → after_line s x ≡ Ok u
+      → ((q : ℕ) → count u.draft k + q < count t.draft k → LineFrom u (n + 1) xs k (count u.draft k + q) (told q (n + 1) xs))
+      → (b : Bool) → makes k (word (words x) 0) ≡ b → (q : ℕ) → count s.draft k + q < count t.draft k → LineFrom s n (x ∷ xs) k (count s.draft k + q) (told q n (x ∷ xs))
+  by_making s u t n x xs is rest true does zero there =
+      let line : told 0 n (x ∷ xs) ≡ n = ap (λ l. slice_index_or l 0 1) (cond-true (makes k (word (words x) 0)) (n ∷ making k (n + 1) xs) (making k (n + 1) xs) does) in
+      record {
+        before = [];
+        at = x;
+        behind = xs;
+        read = s;
+        read_next = u;
+        lines_are = refl;
+        line_is = omega (arith, line);
+        accepted = after_lines-nil s n;
+        next = is;
+        not_before = omega arith;
+        there = omega (arith, line_made k s u x is, ap one_if does);
+      }
+  by_making s u t n x xs is rest true does (suc q) there =
+      let counted : count u.draft k + q ≡ count s.draft k + suc q = omega (arith, line_made k s u x is, ap one_if does) in
+      let line : told (suc q) n (x ∷ xs) ≡ told q (n + 1) xs = ap (λ l. slice_index_or l (suc q) 1) (cond-true (makes k (word (words x) 0)) (n ∷ making k (n + 1) xs) (making k (n + 1) xs) does) in
+      subst (LineFrom s n (x ∷ xs) k (count s.draft k + suc q)) (sym line) (behind_first s u n x xs _ _ _ is counted (rest q (omega (arith, counted, there))))
+  by_making s u t n x xs is rest false does q there =
+      let counted : count u.draft k + q ≡ count s.draft k + q = omega (arith, line_made k s u x is, ap one_if does) in
+      let line : told q n (x ∷ xs) ≡ told q (n + 1) xs = ap (λ l. slice_index_or l q 1) (cond-false (makes k (word (words x) 0)) (n ∷ making k (n + 1) xs) (making k (n + 1) xs) does) in
+      subst (LineFrom s n (x ∷ xs) k (count s.draft k + q)) (sym line) (behind_first s u n x xs _ _ _ is counted (rest q (omega (arith, counted, there))))
+
+  by_first : (s t : State) (n : ℕ) (x : List ℕ) (xs : List (List ℕ))
+      → ((u : State) → after_lines u (n + 1) xs ≡ Ok t → (q : ℕ) → count u.draft k + q < count t.draft k → LineFrom u (n + 1) xs k (count u.draft k + q) (told q (n + 1) xs))
+      → (r : Result State ℕ) → after_line s x ≡ r → after_lines s n (x ∷ xs) ≡ Ok t → (q : ℕ) → count s.draft k + q < count t.draft k
+      → LineFrom s n (x ∷ xs) k (count s.draft k + q) (told q n (x ∷ xs))
+  by_first s t n x xs rest (Ok u) is e = by_making s u t n x xs is (rest u (sym (after_lines-Ok s n x xs u is) ∙ e)) (makes k (word (words x) 0)) refl
+  by_first s t n x xs rest (Err number) is e = λ q there. absurd (err_no_ok t (record { number = number; line = n }) (sym (after_lines-Err s n x xs number is) ∙ e))
+
+  line_from : (s t : State) (n : ℕ) (all : List (List ℕ)) → after_lines s n all ≡ Ok t → (q : ℕ) → count s.draft k + q < count t.draft k → LineFrom s n all k (count s.draft k + q) (told q n all)
+  line_from s t n [] e = λ q there.
+      let same : s ≡ t = ok_same (after_lines s n []) s t (after_lines-nil s n) e in
+      absurd (omega (arith, there, ap (λ r. count r.draft k) same))
+  line_from s t n (x ∷ xs) e = by_first s t n x xs (λ u. line_from u t (n + 1) xs) (after_line s x) refl e
+
+pub lines_are_told : LinesAreTold
+lines_are_told text made k number all there =
+    let none : count no_records k ≡ 0 = sym (none_counted k) in
+    let from = line_from k start made 1 (lines text) all.accepted number (omega (arith, none, there)) in
+    let is_number : count no_records k + number ≡ number = omega (arith, none) in
+    record {
+      at = from.at;
+      read = from.read;
+      read_next = from.read_next;
+      is_line = record { before = from.before; behind = from.behind; lines_are = from.lines_are; line_is = from.line_is; accepted = from.accepted };
+      next = from.next;
+      not_before = omega (arith, is_number, from.not_before);
+      there = omega (arith, is_number, from.there);
+    }
+
 -- ---- the cases
 
 abbrev AreAtRest : Lists → Type 0
@@ -100,6 +192,7 @@ added_at_rest m (record_of.Material r) rest all = all
 added_at_rest m (record_of.Section r) rest all = all
 added_at_rest m (record_of.Node r) rest all = all
 added_at_rest m (record_of.Element r) rest all = all
+added_at_rest m (record_of.Tee r) rest all = all
 added_at_rest m (record_of.Restraint r) rest all = all
 added_at_rest m (record_of.Case c) rest all = All-push (λ c. is_at_rest c ≡ true) m.cases c all (at_rest (is_at_rest c) rest)
 added_at_rest m (record_of.Force r) rest all = all

@@ -8,13 +8,14 @@ use Rattle.std.specs.List.{join_with_byte}
 use Rattle.text_words.specs.Fields.{line, lines}
 use Rattle.model_types.specs.declared.records.Case.{Case}
 use Rattle.model_types.specs.declared.records.RestraintKind.{RestraintKind}
-use Rattle.model_types.specs.declared.records.RestraintKind.TheVariants.{Anchor, Linear, Twist}
-use Rattle.model_types.specs.Kinds.{Kind, material_kind, section_kind, node_kind, element_kind, restraint_kind, case_kind, force_kind, kinds, place, Of, list, as_record, before_place, before}
+use Rattle.model_types.specs.declared.records.RestraintKind.TheVariants.{Anchor, Linear, Twist, Oneway, Gap, Hanger}
+use Rattle.model_types.specs.Kinds.{Kind, material_kind, section_kind, node_kind, element_kind, tee_kind, restraint_kind, case_kind, force_kind, kinds, place, Of, list, as_record, before_place, before}
 use Rattle.model_types.specs.Lists.{Lists, no_records, added}
 use Rattle.model_types.specs.Refusals.{RecordsFollow}
 use Rattle.model_types.specs.Rules.{IsModel}
+use Rattle.model_types.specs.Tees.{TeesAreJudged}
 use Rattle.model_text.specs.Canonical.{canonical, record_lines, kind_lines}
-use Rattle.model_text.specs.Grammar.{after_lines, parsed, whole}
+use Rattle.model_text.specs.Grammar.{after_lines, parsed, whole, without_broken}
 use Rattle.model_text.specs.Lines.{State, start, is_at_rest, is_loaded_case}
 use Rattle.model_text.specs.RoundTrip.{AreCasesAtRest, CanonicalReadsBack}
 use Rattle.model_text.specs.Rows.{restraint_words, words_of}
@@ -37,6 +38,9 @@ restraint_same : (m : Lists) (i : ℕ) (name : List ℕ) (node : ℕ) (kind : Re
 restraint_same m i name node (Anchor kt kr) = refl
 restraint_same m i name node (Linear x y z k) = refl
 restraint_same m i name node (Twist x y z k) = refl
+restraint_same m i name node (Oneway x y z gap k) = refl
+restraint_same m i name node (Gap x y z gap k) = refl
+restraint_same m i name node (Hanger rate load) = refl
 
 case_calm : (m : Lists) → AreCasesAtRest m → (i : ℕ) (x : Case) → slice_get m.cases i ≡ Some x → is_loaded_case (as_record case_kind x) ≡ false
 case_calm m rest i x at =
@@ -76,21 +80,27 @@ of_kind element_kind = record {
   words = λ m i x. refl;
   calm = λ m rest i x at. refl;
 }
+of_kind tee_kind = record {
+  next = λ m i x more. ap (λ xs. record (before_place m 4 0) { tees = xs }) (sym more);
+  whole = λ m. ap (λ xs. record (before_place m 4 0) { tees = xs }) (take-length m.tees);
+  words = λ m i x. refl;
+  calm = λ m rest i x at. refl;
+}
 of_kind restraint_kind = record {
-  next = λ m i x more. ap (λ xs. record (before_place m 4 0) { restraints = xs }) (sym more);
-  whole = λ m. ap (λ xs. record (before_place m 4 0) { restraints = xs }) (take-length m.restraints);
+  next = λ m i x more. ap (λ xs. record (before_place m 5 0) { restraints = xs }) (sym more);
+  whole = λ m. ap (λ xs. record (before_place m 5 0) { restraints = xs }) (take-length m.restraints);
   words = λ m i x. restraint_same m i x.name x.node.0 x.kind;
   calm = λ m rest i x at. refl;
 }
 of_kind case_kind = record {
-  next = λ m i x more. ap (λ xs. record (before_place m 5 0) { cases = xs }) (sym more);
-  whole = λ m. ap (λ xs. record (before_place m 5 0) { cases = xs }) (take-length m.cases);
+  next = λ m i x more. ap (λ xs. record (before_place m 6 0) { cases = xs }) (sym more);
+  whole = λ m. ap (λ xs. record (before_place m 6 0) { cases = xs }) (take-length m.cases);
   words = λ m i x. refl;
   calm = λ m rest i x at. case_calm m rest i x at;
 }
 of_kind force_kind = record {
-  next = λ m i x more. ap (λ xs. record (before_place m 6 0) { forces = xs }) (sym more);
-  whole = λ m. ap (λ xs. record (before_place m 6 0) { forces = xs }) (take-length m.forces);
+  next = λ m i x more. ap (λ xs. record (before_place m 7 0) { forces = xs }) (sym more);
+  whole = λ m. ap (λ xs. record (before_place m 7 0) { forces = xs }) (take-length m.forces);
   words = λ m i x. refl;
   calm = λ m rest i x at. refl;
 }
@@ -100,7 +110,7 @@ abbrev AreFrom : ℕ → List Kind → Type 0
 AreFrom n [] = Unit {0}
 AreFrom n (k ∷ ks) = (place k ≡ n) × AreFrom (n + 1) ks
 
-module _ (follow : RecordsFollow) (m : Lists) (is : IsModel m) (at_rest : AreCasesAtRest m) where
+module _ (follow : RecordsFollow) (judged : TeesAreJudged) (m : Lists) (is : IsModel m) (at_rest : AreCasesAtRest m) where
   module _ (k : Kind) (rest : List ℕ) where
     -- one record of a kind is read
     Leads-one : (i : ℕ) (x : Of k) (left : List ℕ) → slice_get (list m k) i ≡ Some x → Leads (below (before m k i)) (line (words_of m (as_record k x)) ++ left) (below (before m k (i + 1))) left
@@ -152,13 +162,13 @@ module _ (follow : RecordsFollow) (m : Lists) (is : IsModel m) (at_rest : AreCas
   }
 
   -- behind all kinds stands the whole model
-  all_read : before_place m 7 0 ≡ m
-  all_read = ap (λ o. record m { tees = o.tees; temps = o.temps; pressures = o.pressures; moves = o.moves; checks = o.checks }) (sym is.rules.other_kinds)
+  all_read : before_place m 8 0 ≡ m
+  all_read = ap (λ o. record m { temps = o.temps; pressures = o.pressures; moves = o.moves; checks = o.checks }) (sym is.rules.other_kinds)
 
   Leads-all : Leads start (canonical m) (below m) []
   unfolding canonical
   Leads-all =
-      let kinds_read : Leads (below no_records) (flat_map (kind_lines m) kinds) (below (before_place m 7 0)) [] = Leads-kinds kinds 0 (refl, (refl, (refl, (refl, (refl, (refl, (refl, tt))))))) in
+      let kinds_read : Leads (below no_records) (flat_map (kind_lines m) kinds) (below (before_place m 8 0)) [] = Leads-kinds kinds 0 (refl, (refl, (refl, (refl, (refl, (refl, (refl, (refl, tt)))))))) in
       Leads-on _ _ _ _ (flat_map (kind_lines m) kinds) [] (Leads-header (flat_map (kind_lines m) kinds)) (subst (λ l. Leads (below no_records) (flat_map (kind_lines m) kinds) (below l) []) all_read kinds_read)
 
   all_lines : after_lines start 1 (lines (canonical m)) ≡ Ok (below m)
@@ -167,14 +177,17 @@ module _ (follow : RecordsFollow) (m : Lists) (is : IsModel m) (at_rest : AreCas
       let end : State = below m in
       led.1 ∙ after_lines-Ok end led.0 [] [] end refl ∙ after_lines-nil end (led.0 + 1)
 
-  whole_model : whole (Ok (below m)) ≡ Ok m
-  whole_model = cond-false (length m.nodes == 0) (Err (record { number = 15; line = 1 })) _ (ne_eqb (length m.nodes) 0 (λ none. omega (arith, is.some_node)))
+  whole_model : (all : List (List ℕ)) → whole all (Ok (below m)) ≡ Ok m
+  whole_model all =
+      cond-false (length m.nodes == 0) (Err (record { number = 15; line = 1 })) _ (ne_eqb (length m.nodes) 0 (λ none. omega (arith, is.some_node)))
+      ∙ ap (λ o. without_broken all o m) ((judged m).1 is.tees_made)
 
-canonical_reads_back : RecordsFollow → CanonicalReadsBack
-canonical_reads_back follow m is at_rest short = parsed-lines (canonical m) short ∙ ap whole (all_lines follow m is at_rest) ∙ whole_model follow m is at_rest
+canonical_reads_back : RecordsFollow → TeesAreJudged → CanonicalReadsBack
+canonical_reads_back follow judged m is at_rest short =
+    parsed-lines (canonical m) short ∙ ap (whole (lines (canonical m))) (all_lines follow judged m is at_rest) ∙ whole_model follow judged m is at_rest (lines (canonical m))
 
 -- the same for a text that is known to be canonical, where there is one
-pub if_reads_back : {T E : Type 0} → RecordsFollow → (m : Lists) (items : T → List ℕ) (r : Result T E) → IsModel m → IfOk r (λ text. items text ≡ canonical m)
+pub if_reads_back : {T E : Type 0} → RecordsFollow → TeesAreJudged → (m : Lists) (items : T → List ℕ) (r : Result T E) → IsModel m → IfOk r (λ text. items text ≡ canonical m)
     → IfOk r (λ text. AreCasesAtRest m → length (items text) ≤ 4194304 → parsed (items text) ≡ Ok m)
-if_reads_back follow m items (Ok text) is same = subst (λ bytes. AreCasesAtRest m → length bytes ≤ 4194304 → parsed bytes ≡ Ok m) (sym same) (canonical_reads_back follow m is)
-if_reads_back follow m items (Err e) is same = tt
+if_reads_back follow judged m items (Ok text) is same = subst (λ bytes. AreCasesAtRest m → length bytes ≤ 4194304 → parsed bytes ≡ Ok m) (sym same) (canonical_reads_back follow judged m is)
+if_reads_back follow judged m items (Err e) is same = tt

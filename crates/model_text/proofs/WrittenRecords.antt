@@ -4,20 +4,19 @@ use Rattle.std.proofs.lemmas.Bool.{ne_eqb}
 use Rattle.std.proofs.lemmas.List.{length-map}
 use Rattle.std.proofs.lemmas.List.Elements.{All-map, All-weaker}
 use Rattle.text_words.specs.Names.{IsName}
-use Rattle.model_types.specs.declared.records.Element.{Element}
 use Rattle.model_types.specs.declared.records.Shape.{Shape}
-use Rattle.model_types.specs.declared.records.Shape.TheVariants.{Straight}
+use Rattle.model_types.specs.declared.records.Shape.TheVariants.{Straight, Bend}
 use Rattle.model_types.specs.declared.records.RestraintKind.{RestraintKind}
-use Rattle.model_types.specs.declared.records.RestraintKind.TheVariants.{Anchor, Linear, Twist}
+use Rattle.model_types.specs.declared.records.RestraintKind.TheVariants.{Anchor, Linear, Twist, Oneway, Gap, Hanger}
 use Rattle.model_types.specs.declared.records.Record.{Record}
 use Rattle.model_types.specs.declared.records.Record.TheVariants as record_of
 use Rattle.model_types.specs.declared.ids.Space.TheVariants as space_of
 use Rattle.model_types.specs.Lists.{Lists, names_in}
-use Rattle.model_types.specs.Ranges.{KindInForm}
-use Rattle.model_types.specs.Kinds.{Kind, material_kind, section_kind, node_kind, element_kind, restraint_kind, case_kind, force_kind, Of, as_record, before}
+use Rattle.model_types.specs.Ranges.{KindInForm, ShapeInForm}
+use Rattle.model_types.specs.Kinds.{Kind, material_kind, section_kind, node_kind, element_kind, tee_kind, restraint_kind, case_kind, force_kind, Of, as_record, before}
 use Rattle.model_types.specs.Rules.{Keeps, IsModel}
 use Rattle.model_text.specs.Records.{record_of_words, record_under}
-use Rattle.model_text.specs.Rows.{first_word, form_of, row, Values, made, form_words, restraint_words, words_of}
+use Rattle.model_text.specs.Rows.{first_word, form_of, row, Values, made, form_words, element_words, restraint_words, words_of}
 use Rattle.model_text.specs.declared.records.Form.{Form}
 use Rattle.model_text.specs.declared.records.Form.TheVariants as form_named
 use Rattle.model_text.proofs.PlainWords.{is_plain, ArePlain, one_more}
@@ -48,9 +47,14 @@ form form_named.Material = record { word = refl; short = refl; found = refl }
 form form_named.Section = record { word = refl; short = refl; found = refl }
 form form_named.Node = record { word = refl; short = refl; found = refl }
 form form_named.Straight = record { word = refl; short = refl; found = refl }
+form form_named.Bend = record { word = refl; short = refl; found = refl }
+form form_named.Tee = record { word = refl; short = refl; found = refl }
 form form_named.Anchor = record { word = refl; short = refl; found = refl }
 form form_named.Linear = record { word = refl; short = refl; found = refl }
 form form_named.Twist = record { word = refl; short = refl; found = refl }
+form form_named.Oneway = record { word = refl; short = refl; found = refl }
+form form_named.Gap = record { word = refl; short = refl; found = refl }
+form form_named.Hanger = record { word = refl; short = refl; found = refl }
 form form_named.Case = record { word = refl; short = refl; found = refl }
 form form_named.Force = record { word = refl; short = refl; found = refl }
 
@@ -62,15 +66,25 @@ module _ (m : Lists) where
     made = ap (λ o. record_under m o (form_words m f vs)) (form f).found ∙ form_read m f vs (form f).short are;
   }
 
-  straight_written : (r : Element) → IsName r.name → IsNamed (names_in m space_of.Node) r.from.0 → IsNamed (names_in m space_of.Node) r.to.0 → IsNamed (names_in m space_of.Section) r.section.0
-      → (shape : Shape) → IsWritten m (record_of.Element (record r { shape = shape })) (words_of m (record_of.Element r))
-  straight_written r name from to section Straight = form_written form_named.Straight (r.name, (r.from.0, (r.to.0, (r.section.0, tt)))) (name, (from, (to, (section, tt))))
+  element_written : (name : List ℕ) (from to section : ℕ) → IsName name → IsNamed (names_in m space_of.Node) from → IsNamed (names_in m space_of.Node) to → IsNamed (names_in m space_of.Section) section
+      → (shape : Shape) → ShapeInForm shape
+      → IsWritten m (record_of.Element (record { name = name; from = record { 0 = from }; to = record { 0 = to }; section = record { 0 = section }; shape = shape })) (element_words m name from to section shape)
+  element_written name from to section is at_from at_to at_section Straight shape =
+      form_written form_named.Straight (name, (from, (to, (section, tt)))) (is, (at_from, (at_to, (at_section, tt))))
+  element_written name from to section is at_from at_to at_section (Bend r angle x y z) shape =
+      form_written form_named.Bend (name, (from, (to, (section, (r, (angle, (x, (y, (z, tt)))))))))
+      (is, (at_from, (at_to, (at_section, (shape.radius, (shape.listed, (shape.x, (shape.y, (shape.z, tt)))))))))
 
   restraint_written : (name : List ℕ) (node : ℕ) → IsName name → IsNamed (names_in m space_of.Node) node → (kind : RestraintKind) → KindInForm kind
       → IsWritten m (record_of.Restraint (record { name = name; node = record { 0 = node }; kind = kind })) (restraint_words m name node kind)
   restraint_written name node is at (Anchor kt kr) kind = form_written form_named.Anchor (name, (node, (kt, (kr, tt)))) (is, (at, (kind.0, (kind.1, tt))))
   restraint_written name node is at (Linear x y z k) kind = form_written form_named.Linear (name, (node, (record { x = x; y = y; z = z }, (k, tt)))) (is, (at, (kind.0, (kind.1, tt))))
   restraint_written name node is at (Twist x y z k) kind = form_written form_named.Twist (name, (node, (record { x = x; y = y; z = z }, (k, tt)))) (is, (at, (kind.0, (kind.1, tt))))
+  restraint_written name node is at (Oneway x y z gap k) kind =
+      form_written form_named.Oneway (name, (node, (record { x = x; y = y; z = z }, (gap, (k, tt))))) (is, (at, (kind.0, (kind.1, (kind.2, tt)))))
+  restraint_written name node is at (Gap x y z gap k) kind =
+      form_written form_named.Gap (name, (node, (record { x = x; y = y; z = z }, (gap, (k, tt))))) (is, (at, (kind.0, (kind.1, (kind.2, tt)))))
+  restraint_written name node is at (Hanger rate load) kind = form_written form_named.Hanger (name, (node, (rate, (load, tt)))) (is, (at, (kind.0, (kind.1, tt))))
 
 -- a record of a model is read from its words behind those before it
 module _ (m : Lists) (is : IsModel m) where
@@ -82,6 +96,9 @@ module _ (m : Lists) (is : IsModel m) where
 
   node_at : (n : ℕ) → n < length m.nodes → IsNamed (names_in m space_of.Node) n
   node_at n inside = named (λ x. x.name) (λ x. Keeps m (record_of.Node x)) (λ x k. k.form.name) m.nodes n is.kept.nodes (is.rules.distinct node_kind refl) inside
+
+  element_at : (n : ℕ) → n < length m.elements → IsNamed (names_in m space_of.Element) n
+  element_at n inside = named (λ x. x.name) (λ x. Keeps m (record_of.Element x)) (λ x k. k.form.name) m.elements n is.kept.elements (is.rules.distinct element_kind refl) inside
 
   case_at : (n : ℕ) → n < length m.cases → IsNamed (names_in m space_of.Case) n
   case_at n inside = named (λ x. x.name) (λ x. Keeps m (record_of.Case x)) (λ x k. k.form.name) m.cases n is.kept.cases (is.rules.distinct case_kind refl) inside
@@ -98,7 +115,10 @@ module _ (m : Lists) (is : IsModel m) where
       let f = k.form in
       form_written (before m node_kind i) form_named.Node (r.name, (r.x, (r.y, (r.z, tt)))) (f.name, (f.x, (f.y, (f.z, tt))))
   written element_kind i r k =
-      straight_written (before m element_kind i) r k.form (node_at r.from.0 k.known.0) (node_at r.to.0 k.known.1.0) (section_at r.section.0 k.known.1.1.0) r.shape
+      element_written (before m element_kind i) r.name r.from.0 r.to.0 r.section.0 k.form.name (node_at r.from.0 k.known.0) (node_at r.to.0 k.known.1.0) (section_at r.section.0 k.known.1.1.0) r.shape k.form.shape
+  written tee_kind i r k =
+      form_written (before m tee_kind i) form_named.Tee (r.node.0, (r.branch.0, (r.header.0, (r.kind, tt))))
+      (node_at r.node.0 k.known.0, (element_at r.branch.0 k.known.1.0, (section_at r.header.0 k.known.1.1.0, (k.form, tt))))
   written restraint_kind i r k = restraint_written (before m restraint_kind i) r.name r.node.0 k.form.0 (node_at r.node.0 k.known.0) r.kind k.form.1
   written case_kind i r k =
       let f = k.form in

@@ -1,5 +1,5 @@
 -- The words of a canonical text are plain, and are read as what they were written for.
-use Rattle.std.proofs.Common.{◌≡◌, ◌≢◌, ℕ, suc, ◌+◌, ◌^◌, ◌<◌, ◌≤◌, ◌&&◌, ◌==◌, nat_lt, nat_le, not, Bool, true, false, List, [], ◌∷◌, ◌++◌, length, length-append, append_assoc, get_or, ℤ, pos, negsuc, neg_ℤ, ◌≤ℤ◌, int_le, unsigned_abs, codes, position, unwrap_or, Option, Some, None, Result, Ok, Err, AllPairs, nat_eq, int_eq, refl, sym, ap, ◌∙◌, arith}
+use Rattle.std.proofs.Common.{◌≡◌, ◌≢◌, ℕ, suc, ◌+◌, ◌^◌, ◌<◌, ◌≤◌, ◌&&◌, ◌==◌, nat_lt, nat_le, not, Bool, true, false, List, [], ◌∷◌, ◌++◌, length, length-append, append_assoc, get_or, ℤ, pos, negsuc, neg_ℤ, ◌≤ℤ◌, int_le, unsigned_abs, IsTrue, codes, position, unwrap_or, Option, Some, None, Result, Ok, Err, AllPairs, nat_eq, int_eq, if◌then◌else◌, refl, sym, ap, ◌∙◌, arith}
 use Rattle.std.proofs.lemmas.Bool.{and_parts, and_from, cond-true, cond-false, lt-ltb, ltb-true, false_from_ne_true}
 use Rattle.std.proofs.lemmas.Bool.Decides.{nat_tests, Decides-int_eq}
 use Rattle.std.proofs.lemmas.Fmt.{decimal_nonempty, digits_decimal, decimal_digit}
@@ -13,17 +13,20 @@ use Rattle.std.specs.Cmp.Lexicographic.{pointwise}
 use Rattle.std.specs.Fmt.{decimal, signed_decimal}
 use Rattle.std.specs.List.{list_all, position_or_len}
 use Rattle.std.specs.Str.{bytes_eq}
+use Rattle.angle_table.specs.HalfAngle.{is_bend_angle}
 use Rattle.text_words.specs.Names.{IsName, is_name, is_name_byte}
 use Rattle.text_words.specs.Numbers.{number_of}
 use Rattle.text_words.proofs.NumberLemmas.{own, number_of-IsNumber}
 use Rattle.model_types.specs.declared.records.Record.{Record}
 use Rattle.model_types.specs.Lists.{Lists, names_in}
-use Rattle.model_types.specs.Ranges.{IsIn, IsStiffness, IsDirection}
-use Rattle.model_text.specs.Fields.{◌>>=◌, name_at, is_in, in_range, number_in, stiffness_in, is_default, flag_at, is_zero, direction_at}
-use Rattle.model_text.specs.Rows.{Field, own_name, name_in, within, stiffness_or_default, flag, direction, first_word, row, Value, Values, width, row_width, made, number_named, read_field, read_row, record_in, name_of, stiffness_word, flag_word, field_words, row_words, form_words}
+use Rattle.model_types.specs.Ranges.{IsIn, IsStiffness, IsDirection, TeeInForm}
+use Rattle.model_text.specs.Fields.{◌>>=◌, name_at, is_in, in_range, number_in, angle_at, stiffness_in, is_default, flag_at, connection_at, is_zero, direction_at}
+use Rattle.model_text.specs.Rows.{Field, own_name, name_in, within, bend_angle, stiffness_or_default, flag, connection, direction, first_word, row, Value, Values, width, row_width, made, number_named, read_field, read_row, record_in, name_of, stiffness_word, flag_word, connection_words, field_words, row_words, form_words}
 use Rattle.model_types.specs.declared.ranges.Range.{Range}
-use Rattle.model_types.specs.declared.ranges.TheConstants.{DIRECTION_PART, STIFFNESS}
-use Rattle.model_text.specs.declared.fields.TheConstants.{FLAG}
+use Rattle.model_types.specs.declared.records.TeeKind.{TeeKind}
+use Rattle.model_types.specs.declared.records.TeeKind.TheVariants.{Unreinforced, Pad, Coefficient}
+use Rattle.model_types.specs.declared.ranges.TheConstants.{DIRECTION_PART, PAD_THICKNESS, STIFFNESS, TEE_COEFFICIENT}
+use Rattle.model_text.specs.declared.fields.TheConstants.{ANGLE, FLAG, NOTHING}
 use Rattle.model_text.specs.declared.records.Form.{Form}
 use Rattle.model_text.specs.Words.{word}
 use Rattle.model_text.specs.declared.fields.Direction.{Direction}
@@ -148,6 +151,19 @@ unfolding flag_at
 reads_flag true = ap (λ r. r >>= λ n. Ok (int_eq n (pos 1))) (digit_read 1 (omega arith))
 reads_flag false = ap (λ r. r >>= λ n. Ok (int_eq n (pos 1))) (digit_read 0 (omega arith))
 
+-- the angle of a bend is one of six numbers
+angle_in : (n : ℕ) → IsTrue (is_bend_angle n) → IsIn ANGLE (pos n)
+angle_in n listed = let bounds : (22500 ≤ n) × (n ≤ 180000) = grind (arith, nat_tests) in record { least = omega (arith, ints, bounds.0); most = omega (arith, ints, bounds.1) }
+
+reads_angle : (n : ℕ) → IsTrue (is_bend_angle n) → angle_at (decimal n) ≡ Ok n
+unfolding angle_at
+reads_angle n listed =
+    after_step _ (pos n) _ _ (reads_number ANGLE (pos n) refl (angle_in n listed))
+    (after_step _ tt _ _ (cond-false (not (is_bend_angle n)) (Err 7) (Ok tt) (ap not listed)) refl)
+
+plain_angle : (n : ℕ) → IsTrue (is_bend_angle n) → IsPlain (decimal n)
+plain_angle n listed = plain_number_in ANGLE (pos n) refl (angle_in n listed)
+
 -- a direction
 not_all_zero : (x y z : ℤ) → IsDirection x y z → is_zero x y z ≡ false
 not_all_zero x y z is = false_from_ne_true (is_zero x y z) (λ zero.
@@ -180,6 +196,43 @@ reads_direction done rest d k at is =
     (after_step _ d.z _ _ (ap (number_in DIRECTION_PART) (word_behind done (x ∷ y ∷ []) z rest (k + 2) (omega arith)) ∙ reads_number DIRECTION_PART d.z refl is.z_part)
     (after_step _ tt _ _ (cond-false (is_zero d.x d.y d.z) (Err 7) (Ok tt) (not_all_zero d.x d.y d.z is)) refl)))
 
+-- how a tee is made, by the word of its kind
+abbrev connection_by : List ℕ → List ℕ → Result TeeKind ℕ
+connection_by kind value =
+    if bytes_eq kind (codes "unreinforced") then (number_in NOTHING value >>= λ _. Ok Unreinforced) else
+    if bytes_eq kind (codes "pad") then (number_in PAD_THICKNESS value >>= λ thickness. Ok (Pad thickness)) else
+    if bytes_eq kind (codes "coefficient") then (number_in TEE_COEFFICIENT value >>= λ c. Ok (Coefficient c)) else
+    Err 9
+
+by_words : (done rest : List (List ℕ)) (kind value : List ℕ) (k : ℕ) → k ≡ length done → connection_at (done ++ kind ∷ value ∷ rest) k ≡ connection_by kind value
+unfolding connection_at
+by_words done rest kind value k at =
+    ap (λ w. connection_by w (word (done ++ kind ∷ value ∷ rest) (k + 1))) (word_at done kind (value ∷ rest) k at)
+    ∙ ap (connection_by kind) (word_behind done (kind ∷ []) value rest (k + 1) (omega (arith, at)))
+
+nothing_read : number_in NOTHING (codes "0") ≡ Ok (pos 0)
+nothing_read =
+    let least : pos 0 ≤ℤ pos 0 = omega (arith, ints) in
+    sym (ap (number_in NOTHING) (decimal_digit 0 (omega arith))) ∙ reads_number NOTHING (pos 0) refl (record { least = least; most = least })
+
+reads_connection : (done rest : List (List ℕ)) (kind : TeeKind) (k : ℕ) → k ≡ length done → TeeInForm kind → connection_at (done ++ (connection_words kind ++ rest)) k ≡ Ok kind
+reads_connection done rest Unreinforced k at is =
+    by_words done rest (codes "unreinforced") (codes "0") k at ∙ after_step _ (pos 0) _ _ nothing_read refl
+reads_connection done rest (Pad thickness) k at is =
+    by_words done rest (codes "pad") (signed_decimal thickness) k at ∙ after_step _ thickness _ _ (reads_number PAD_THICKNESS thickness refl is) refl
+reads_connection done rest (Coefficient c) k at is =
+    by_words done rest (codes "coefficient") (signed_decimal c) k at ∙ after_step _ c _ _ (reads_number TEE_COEFFICIENT c refl is) refl
+
+plain_connection : (kind : TeeKind) (rest : List (List ℕ)) → TeeInForm kind → ArePlain rest → ArePlain (connection_words kind ++ rest)
+plain_connection Unreinforced rest is plain = one_more _ _ (record { passes = refl }) (one_more _ _ (record { passes = refl }) plain)
+plain_connection (Pad thickness) rest is plain = one_more _ _ (record { passes = refl }) (one_more _ _ (plain_number_in PAD_THICKNESS thickness refl is) plain)
+plain_connection (Coefficient c) rest is plain = one_more _ _ (record { passes = refl }) (one_more _ _ (plain_number_in TEE_COEFFICIENT c refl is) plain)
+
+length-connection : (kind : TeeKind) → length (connection_words kind) ≡ 2
+length-connection Unreinforced = refl
+length-connection (Pad thickness) = refl
+length-connection (Coefficient c) = refl
+
 -- the name at a place is plain, read as a name, and found there
 pub record IsNamed (names : List (List ℕ)) (n : ℕ) : Type 0 where
   pub plain : IsPlain (get_or names n [])
@@ -191,8 +244,10 @@ abbrev pub IsInField : Lists → (f : Field) → Value f → Type 0
 IsInField m own_name name = IsName name
 IsInField m (name_in space) n = IsNamed (names_in m space) n
 IsInField m (within range) n = IsIn range n
+IsInField m bend_angle n = IsTrue (is_bend_angle n)
 IsInField m stiffness_or_default k = IsStiffness k
 IsInField m flag b = Unit {0}
+IsInField m connection kind = TeeInForm kind
 IsInField m direction d = IsDirection d.x d.y d.z
 
 abbrev pub AreInRow : Lists → (fs : List Field) → Values fs → Type 0
@@ -204,8 +259,10 @@ abbrev is_short_field : Field → Bool
 is_short_field own_name = true
 is_short_field (name_in space) = true
 is_short_field (within range) = is_short range
+is_short_field bend_angle = true
 is_short_field stiffness_or_default = true
 is_short_field flag = true
+is_short_field connection = true
 is_short_field direction = true
 
 abbrev pub is_short_row : List Field → Bool
@@ -218,16 +275,20 @@ module _ (m : Lists) where
   reads_field (name_in space) n done rest k at short is =
       ap (number_named m space) (word_at done (name_of m space n) rest k at) ∙ after_step _ (name_of m space n) _ _ is.reads (ap Ok is.found)
   reads_field (within range) v done rest k at short is = ap (number_in range) (word_at done (signed_decimal v) rest k at) ∙ reads_number range v short is
+  reads_field bend_angle n done rest k at short is = ap angle_at (word_at done (decimal n) rest k at) ∙ reads_angle n is
   reads_field stiffness_or_default v done rest k at short is = ap stiffness_in (word_at done (stiffness_word v) rest k at) ∙ reads_stiffness v is
   reads_field flag v done rest k at short is = ap flag_at (word_at done (flag_word v) rest k at) ∙ reads_flag v
+  reads_field connection v done rest k at short is = reads_connection done rest v k at is
   reads_field direction v done rest k at short is = reads_direction done rest v k at is
 
   field_plain : (f : Field) (v : Value f) (rest : List (List ℕ)) → is_short_field f ≡ true → IsInField m f v → ArePlain rest → ArePlain (field_words m f v ++ rest)
   field_plain own_name v rest short is plain = one_more _ _ (plain_name v is) plain
   field_plain (name_in space) n rest short is plain = one_more _ _ is.plain plain
   field_plain (within range) v rest short is plain = one_more _ _ (plain_number_in range v short is) plain
+  field_plain bend_angle n rest short is plain = one_more _ _ (plain_angle n is) plain
   field_plain stiffness_or_default v rest short is plain = one_more _ _ (plain_stiffness v is) plain
   field_plain flag v rest short is plain = one_more _ _ (plain_flag v) plain
+  field_plain connection v rest short is plain = plain_connection v rest is plain
   field_plain direction v rest short is plain =
       one_more _ _ (plain_number_in DIRECTION_PART v.x refl is.x_part)
       (one_more _ _ (plain_number_in DIRECTION_PART v.y refl is.y_part) (one_more _ _ (plain_number_in DIRECTION_PART v.z refl is.z_part) plain))
@@ -236,8 +297,10 @@ module _ (m : Lists) where
   length-field own_name v = refl
   length-field (name_in space) v = refl
   length-field (within range) v = refl
+  length-field bend_angle v = refl
   length-field stiffness_or_default v = refl
   length-field flag v = refl
+  length-field connection v = length-connection v
   length-field direction v = refl
 
   length-row : (fs : List Field) (vs : Values fs) → length (row_words m fs vs) ≡ row_width fs

@@ -1,11 +1,14 @@
 -- The fields of a record: what a word gives, or the number that refuses it.
-use Rattle.std.specs.Prelude.{ℕ, ◌+◌, ◌&&◌, Bool, ℤ, pos, int_le, List, Option, Some, None, Result, Ok, Err, if◌then◌else◌, codes}
+use Rattle.std.specs.Prelude.{ℕ, ◌+◌, ◌&&◌, Bool, not, ℤ, pos, unsigned_abs, int_le, List, Option, Some, None, Result, Ok, Err, if◌then◌else◌, codes}
 use Rattle.std.specs.Ordering.{int_eq}
 use Rattle.std.specs.Str.{bytes_eq}
 use Rattle.text_words.specs.Names.{is_name}
+use Rattle.angle_table.specs.HalfAngle.{is_bend_angle}
 use Rattle.model_types.specs.declared.ranges.Range.{Range}
-use Rattle.model_types.specs.declared.ranges.TheConstants.{DIRECTION_PART, STIFFNESS}
-use Rattle.model_text.specs.declared.fields.TheConstants.{FLAG}
+use Rattle.model_types.specs.declared.records.TeeKind.{TeeKind}
+use Rattle.model_types.specs.declared.records.TeeKind.TheVariants.{Unreinforced, Pad, Coefficient}
+use Rattle.model_types.specs.declared.ranges.TheConstants.{DIRECTION_PART, PAD_THICKNESS, STIFFNESS, TEE_COEFFICIENT}
+use Rattle.model_text.specs.declared.fields.TheConstants.{ANGLE, FLAG, NOTHING}
 use Rattle.text_words.specs.Numbers.{number_of}
 use Rattle.text_words.specs.declared.numbers.NumberFault.{NumberFault}
 use Rattle.text_words.specs.declared.numbers.NumberFault.TheVariants.{NotANumber, TooLong}
@@ -45,6 +48,21 @@ is_default w = bytes_eq w (codes "-")
 -- a stiffness, or the default
 unfoldable pub stiffness_in : List ℕ → Result (Option ℤ) ℕ
 stiffness_in w = if is_default w then Ok None else (number_in STIFFNESS w >>= λ k. Ok (Some k))
+
+-- the angle of a bend: 7 where it is none of the six
+unfoldable pub angle_at : List ℕ → Result ℕ ℕ
+angle_at w = do
+  angle ← number_in ANGLE w
+  _ ← refuse_if (not (is_bend_angle (unsigned_abs angle))) 7
+  Ok (unsigned_abs angle)
+
+-- how a tee is made, in two words from word k on: 9 where the first is no kind of tee
+unfoldable pub connection_at : List (List ℕ) → ℕ → Result TeeKind ℕ
+connection_at ws k =
+    if bytes_eq (word ws k) (codes "unreinforced") then (number_in NOTHING (word ws (k + 1)) >>= λ _. Ok Unreinforced) else
+    if bytes_eq (word ws k) (codes "pad") then (number_in PAD_THICKNESS (word ws (k + 1)) >>= λ thickness. Ok (Pad thickness)) else
+    if bytes_eq (word ws k) (codes "coefficient") then (number_in TEE_COEFFICIENT (word ws (k + 1)) >>= λ c. Ok (Coefficient c)) else
+    Err 9
 
 -- 0 or 1
 unfoldable pub flag_at : List ℕ → Result Bool ℕ

@@ -1,10 +1,11 @@
 -- The model text: the lists that it stands for, or the number and line of its refusal.
-use Rattle.std.specs.Prelude.{◌≡◌, ◌≢◌, ◌↔◌, ℕ, ◌+◌, ◌<◌, ◌≤◌, ◌==◌, true, false, nat_lt, List, [], ◌∷◌, ◌++◌, length, All, Result, Ok, Err, if◌then◌else◌}
-use Rattle.model_types.specs.Kinds.{Kind, count}
+use Rattle.std.specs.Prelude.{◌≡◌, ◌≢◌, ◌↔◌, ℕ, ◌+◌, ◌<◌, ◌≤◌, ◌==◌, true, false, nat_lt, List, [], ◌∷◌, ◌++◌, length, All, Option, Some, None, Result, Ok, Err, if◌then◌else◌}
+use Rattle.model_types.specs.Kinds.{Kind, tee_kind, count}
 use Rattle.model_types.specs.Lists.{Lists}
+use Rattle.model_types.specs.Tees.{broken_tee}
 use Rattle.text_words.specs.Fields.{lines}
 use Rattle.model_text.specs.declared.reader.TheConstants.{LONGEST_TEXT}
-use Rattle.model_text.specs.Lines.{State, start, after_line, is_at_rest}
+use Rattle.model_text.specs.Lines.{State, start, after_line, is_at_rest, making_line}
 
 -- a number that refuses the text, and the line to which it points
 pub record Refusal : Type 0 where
@@ -21,16 +22,21 @@ unfoldable pub after_lines : State → ℕ → List (List ℕ) → Result State 
 after_lines s n [] = Ok s
 after_lines s n (line ∷ rest) = go_on n (after_line s line) (λ t. after_lines t (n + 1) rest)
 
--- what is missing after the last line: the header, or a node
-abbrev pub whole : Result State Refusal → Result Lists Refusal
-whole (Err refusal) = Err refusal
-whole (Ok s) =
-    if s.header then (if length s.draft.nodes == 0 then Err (record { number = 15; line = 1 }) else Ok s.draft)
+-- the lists, unless a tee is broken, which is refused at its own line
+abbrev pub without_broken : List (List ℕ) → Option ℕ → Lists → Result Lists Refusal
+without_broken all None m = Ok m
+without_broken all (Some tee) m = Err (record { number = 12; line = making_line tee_kind tee all })
+
+-- what is missing after the last line: the header, or a node; or a tee that is broken
+abbrev pub whole : List (List ℕ) → Result State Refusal → Result Lists Refusal
+whole all (Err refusal) = Err refusal
+whole all (Ok s) =
+    if s.header then (if length s.draft.nodes == 0 then Err (record { number = 15; line = 1 }) else without_broken all (broken_tee s.draft) s.draft)
     else Err (record { number = 3; line = 1 })
 
 -- the lists that a text stands for, or its first refusal
 unfoldable pub parsed : List ℕ → Result Lists Refusal
-parsed text = if nat_lt LONGEST_TEXT (length text) then Err (record { number = 1; line = 1 }) else whole (after_lines start 1 (lines text))
+parsed text = if nat_lt LONGEST_TEXT (length text) then Err (record { number = 1; line = 1 }) else whole (lines text) (after_lines start 1 (lines text))
 
 -- a line of a text: the lines before it are accepted, and what they made
 pub record IsLine (text : List ℕ) (line : ℕ) (at : List ℕ) (read : State) : Type 0 where
@@ -53,18 +59,20 @@ pub record AreAccepted (text : List ℕ) (made : State) : Type 0 where
   pub accepted : after_lines start 1 (lines text) ≡ Ok made
 
 -- why a text is refused by a number at a line: it is too long; or a line is the first at fault; or there is no header, or no node
--- below it. No text meets two of these
+-- below it, or the elements at the node of some tee don't make it. No text meets two of these
 pub data IsRefusedAt (text : List ℕ) : ℕ → ℕ → Type 0 where
   too_long : LONGEST_TEXT < length text → IsRefusedAt text 1 1
   by_line : (number line : ℕ) → length text ≤ LONGEST_TEXT → IsFault text number line → IsRefusedAt text number line
   no_header : (made : State) → AreAccepted text made → made.header ≡ false → IsRefusedAt text 3 1
   no_node : (made : State) → AreAccepted text made → made.header ≡ true → made.draft.nodes ≡ [] → IsRefusedAt text 15 1
+  bad_tee : (made : State) (tee : ℕ) → AreAccepted text made → made.header ≡ true → made.draft.nodes ≢ [] → broken_tee made.draft ≡ Some tee → IsRefusedAt text 12 (making_line tee_kind tee (lines text))
 
--- a text stands for these lists: it is short enough, it has the header, no line is at fault, the lists are what the lines made, and
--- there is a node
+-- a text stands for these lists: it is short enough, it has the header, no line is at fault, the lists are what the lines made,
+-- there is a node, and no tee is broken
 pub record StandsFor (text : List ℕ) (m : Lists) : Type 0 where
   pub accepted : AreAccepted text (record { header = true; draft = m })
   pub some_node : m.nodes ≢ []
+  pub tees_made : broken_tee m ≡ None
 
 -- the grammar in these words: which texts are refused, by which number and at which line, and which stand for lists
 abbrev pub RefusalsAreReasons : Type 0
@@ -86,6 +94,10 @@ pub record IsLineOf (text : List ℕ) (k : Kind) (number line : ℕ) : Type 0 wh
 -- a record is made by one line
 abbrev pub LinesAreDetermined : Type 0
 LinesAreDetermined = (text : List ℕ) (k : Kind) (number line other : ℕ) → IsLineOf text k number line → IsLineOf text k number other → line ≡ other
+
+-- the line that the grammar tells makes the record
+abbrev pub LinesAreTold : Type 0
+LinesAreTold = (text : List ℕ) (made : State) (k : Kind) (number : ℕ) → AreAccepted text made → number < count made.draft k → IsLineOf text k number (making_line k number (lines text))
 
 -- all numbers of each case are 0
 abbrev pub CasesAreAtRest : Type 0

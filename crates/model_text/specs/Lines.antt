@@ -1,7 +1,7 @@
 -- What a line of the text makes of the lines before it.
-use Rattle.std.specs.Prelude.{ℕ, ◌==◌, ◌&&◌, Bool, true, false, not, pos, List, length, Option, Some, None, Result, Ok, Err, if◌then◌else◌, codes}
+use Rattle.std.specs.Prelude.{ℕ, ◌+◌, [], ◌∷◌, ◌==◌, ◌&&◌, Bool, true, false, not, pos, List, length, Option, Some, None, Result, Ok, Err, if◌then◌else◌, codes}
 use Rattle.std.specs.Ordering.{int_eq}
-use Rattle.std.specs.List.{list_all}
+use Rattle.std.specs.List.{list_all, slice_index_or}
 use Rattle.std.specs.Str.{bytes_eq}
 use Rattle.model_types.specs.declared.records.Case.{Case}
 use Rattle.model_types.specs.declared.records.Record.{Record}
@@ -39,6 +39,7 @@ is_loaded_case (record_of.Material _) = false
 is_loaded_case (record_of.Section _) = false
 is_loaded_case (record_of.Node _) = false
 is_loaded_case (record_of.Element _) = false
+is_loaded_case (record_of.Tee _) = false
 is_loaded_case (record_of.Restraint _) = false
 is_loaded_case (record_of.Force _) = false
 
@@ -77,6 +78,15 @@ is_of_kind k (Some f) = place (kind_made f) == place k
 
 abbrev pub makes : Kind → List ℕ → Bool
 makes k w = is_of_kind k (form_of w)
+
+-- the numbers, from n on, of the lines that make records of a kind
+abbrev pub making : Kind → ℕ → List (List ℕ) → List ℕ
+making k n [] = []
+making k n (line ∷ rest) = if makes k (word (words line) 0) then n ∷ making k (n + 1) rest else making k (n + 1) rest
+
+-- the line of the record of that number of a kind
+abbrev pub making_line : Kind → ℕ → List (List ℕ) → ℕ
+making_line k number all = slice_index_or (making k 1 all) number 1
 
 -- a line's fault, as the text's
 abbrev pub at_line : AddFault → ℕ → TextFault

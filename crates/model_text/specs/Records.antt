@@ -10,8 +10,7 @@ use Rattle.model_text.specs.Words.{word}
 -- a word whose record isn't read yet
 abbrev pub is_unbuilt : List ℕ → Bool
 is_unbuilt w =
-    bytes_eq w (codes "bend") || bytes_eq w (codes "tee") || bytes_eq w (codes "oneway") || bytes_eq w (codes "gap") || bytes_eq w (codes "hanger")
-    || bytes_eq w (codes "temp") || bytes_eq w (codes "pressure") || bytes_eq w (codes "move") || bytes_eq w (codes "check")
+    bytes_eq w (codes "temp") || bytes_eq w (codes "pressure") || bytes_eq w (codes "move") || bytes_eq w (codes "check")
 
 -- what the words give in a form: 4 where no record has their first word
 abbrev pub record_under : Lists → Option Form → List (List ℕ) → Result Record ℕ

@@ -1,33 +1,38 @@
 -- The table of records: the row of fields of each form of record, and how such a row is read and written.
 use Rattle.std.specs.Prelude.{ℕ, ◌+◌, ◌==◌, not, Bool, ℤ, List, [], ◌∷◌, ◌++◌, length, Option, Some, None, Result, Ok, unwrap_or, if◌then◌else◌, codes}
-use Rattle.std.specs.Fmt.{signed_decimal}
+use Rattle.std.specs.Fmt.{decimal, signed_decimal}
 use Rattle.std.specs.List.{slice_index_or}
 use Rattle.std.specs.Str.{bytes_eq}
 use Rattle.model_types.specs.declared.ids.Space.{Space}
 use Rattle.model_types.specs.declared.ids.Space.TheVariants as space_of
-use Rattle.model_types.specs.declared.records.Shape.TheVariants.{Straight}
+use Rattle.model_types.specs.declared.records.Shape.TheVariants.{Straight, Bend}
+use Rattle.model_types.specs.declared.records.Shape.{Shape}
+use Rattle.model_types.specs.declared.records.TeeKind.{TeeKind}
+use Rattle.model_types.specs.declared.records.TeeKind.TheVariants.{Unreinforced, Pad, Coefficient}
 use Rattle.model_types.specs.declared.records.RestraintKind.{RestraintKind}
-use Rattle.model_types.specs.declared.records.RestraintKind.TheVariants.{Anchor, Linear, Twist}
+use Rattle.model_types.specs.declared.records.RestraintKind.TheVariants.{Anchor, Linear, Twist, Oneway, Gap, Hanger}
 use Rattle.model_types.specs.declared.records.Record.{Record}
 use Rattle.model_types.specs.declared.records.Record.TheVariants as record_of
 use Rattle.model_types.specs.Lists.{Lists, names_in, record_number}
 use Rattle.model_types.specs.declared.ranges.Range.{Range}
-use Rattle.model_types.specs.declared.ranges.TheConstants.{ACCELERATION, COORDINATE, DENSITY, DIAMETER, EXPANSION, EXTRA_WEIGHT, LOAD, MODULUS, POISSON_RATIO, PRESSURE, TEMPERATURE_CHANGE, WALL, WALL_ALLOWANCE}
-use Rattle.model_types.specs.Kinds.{Kind, material_kind, section_kind, node_kind, element_kind, restraint_kind, case_kind, force_kind}
+use Rattle.model_types.specs.declared.ranges.TheConstants.{ACCELERATION, BEND_RADIUS, COORDINATE, CORNER, DENSITY, DIAMETER, EXPANSION, EXTRA_WEIGHT, GAP, HANGER_LOAD, LOAD, MODULUS, POISSON_RATIO, PRESSURE, STIFFNESS, TEMPERATURE_CHANGE, WALL, WALL_ALLOWANCE}
+use Rattle.model_types.specs.Kinds.{Kind, material_kind, section_kind, node_kind, element_kind, tee_kind, restraint_kind, case_kind, force_kind}
 use Rattle.model_text.specs.declared.records.Form.{Form}
 use Rattle.model_text.specs.declared.records.Form.TheVariants as form
 use Rattle.model_text.specs.declared.fields.Direction.{Direction}
-use Rattle.model_text.specs.Fields.{◌>>=◌, refuse_if, name_at, number_in, stiffness_in, flag_at, direction_at}
+use Rattle.model_text.specs.Fields.{◌>>=◌, refuse_if, name_at, number_in, angle_at, stiffness_in, flag_at, connection_at, direction_at}
 use Rattle.model_text.specs.Words.{word}
 
--- what a field of a row holds: the record's own name, the name of another record, a number in a range, a stiffness or `-`, 0 or 1, or
--- the three parts of a direction
+-- what a field of a row holds: the record's own name, the name of another record, a number in a range, the angle of a bend, a
+-- stiffness or `-`, 0 or 1, how a tee is made, or the three parts of a direction
 pub data Field : Type 0 where
   own_name : Field
   name_in : Space → Field
   within : Range → Field
+  bend_angle : Field
   stiffness_or_default : Field
   flag : Field
+  connection : Field
   direction : Field
 
 -- the first word of each form of record
@@ -36,14 +41,19 @@ first_word form.Material = codes "material"
 first_word form.Section = codes "section"
 first_word form.Node = codes "node"
 first_word form.Straight = codes "straight"
+first_word form.Bend = codes "bend"
+first_word form.Tee = codes "tee"
 first_word form.Anchor = codes "anchor"
 first_word form.Linear = codes "linear"
 first_word form.Twist = codes "twist"
+first_word form.Oneway = codes "oneway"
+first_word form.Gap = codes "gap"
+first_word form.Hanger = codes "hanger"
 first_word form.Case = codes "case"
 first_word form.Force = codes "force"
 
 abbrev pub forms : List Form
-forms = form.Material ∷ form.Section ∷ form.Node ∷ form.Straight ∷ form.Anchor ∷ form.Linear ∷ form.Twist ∷ form.Case ∷ form.Force ∷ []
+forms = form.Material ∷ form.Section ∷ form.Node ∷ form.Straight ∷ form.Bend ∷ form.Tee ∷ form.Anchor ∷ form.Linear ∷ form.Twist ∷ form.Oneway ∷ form.Gap ∷ form.Hanger ∷ form.Case ∷ form.Force ∷ []
 
 -- the form among these with that first word
 abbrev pub form_among : List ℕ → List Form → Option Form
@@ -60,9 +70,14 @@ kind_made form.Material = material_kind
 kind_made form.Section = section_kind
 kind_made form.Node = node_kind
 kind_made form.Straight = element_kind
+kind_made form.Bend = element_kind
+kind_made form.Tee = tee_kind
 kind_made form.Anchor = restraint_kind
 kind_made form.Linear = restraint_kind
 kind_made form.Twist = restraint_kind
+kind_made form.Oneway = restraint_kind
+kind_made form.Gap = restraint_kind
+kind_made form.Hanger = restraint_kind
 kind_made form.Case = case_kind
 kind_made form.Force = force_kind
 
@@ -72,19 +87,27 @@ row form.Material = own_name ∷ within MODULUS ∷ within POISSON_RATIO ∷ wit
 row form.Section = own_name ∷ name_in space_of.Material ∷ within DIAMETER ∷ within WALL ∷ within WALL_ALLOWANCE ∷ within EXTRA_WEIGHT ∷ []
 row form.Node = own_name ∷ within COORDINATE ∷ within COORDINATE ∷ within COORDINATE ∷ []
 row form.Straight = own_name ∷ name_in space_of.Node ∷ name_in space_of.Node ∷ name_in space_of.Section ∷ []
+row form.Bend =
+    own_name ∷ name_in space_of.Node ∷ name_in space_of.Node ∷ name_in space_of.Section ∷ within BEND_RADIUS ∷ bend_angle ∷ within CORNER ∷ within CORNER ∷ within CORNER ∷ []
+row form.Tee = name_in space_of.Node ∷ name_in space_of.Element ∷ name_in space_of.Section ∷ connection ∷ []
 row form.Anchor = own_name ∷ name_in space_of.Node ∷ stiffness_or_default ∷ stiffness_or_default ∷ []
 row form.Linear = own_name ∷ name_in space_of.Node ∷ direction ∷ stiffness_or_default ∷ []
 row form.Twist = own_name ∷ name_in space_of.Node ∷ direction ∷ stiffness_or_default ∷ []
+row form.Oneway = own_name ∷ name_in space_of.Node ∷ direction ∷ within GAP ∷ stiffness_or_default ∷ []
+row form.Gap = own_name ∷ name_in space_of.Node ∷ direction ∷ within GAP ∷ stiffness_or_default ∷ []
+row form.Hanger = own_name ∷ name_in space_of.Node ∷ within STIFFNESS ∷ within HANGER_LOAD ∷ []
 row form.Case = own_name ∷ within ACCELERATION ∷ within ACCELERATION ∷ within ACCELERATION ∷ flag ∷ within TEMPERATURE_CHANGE ∷ within PRESSURE ∷ []
 row form.Force = name_in space_of.Case ∷ name_in space_of.Node ∷ within LOAD ∷ within LOAD ∷ within LOAD ∷ within LOAD ∷ within LOAD ∷ within LOAD ∷ []
 
--- what a field gives: a name, the number of the record named, a whole number, a stiffness, a flag, a direction
+-- what a field gives: a name, the number of the record named, a whole number, an angle, a stiffness, a flag, a kind of tee, a direction
 abbrev pub Value : Field → Type 0
 Value own_name = List ℕ
 Value (name_in space) = ℕ
 Value (within range) = ℤ
+Value bend_angle = ℕ
 Value stiffness_or_default = Option ℤ
 Value flag = Bool
+Value connection = TeeKind
 Value direction = Direction
 
 abbrev pub Values : List Field → Type 0
@@ -96,8 +119,10 @@ abbrev pub width : Field → ℕ
 width own_name = 1
 width (name_in space) = 1
 width (within range) = 1
+width bend_angle = 1
 width stiffness_or_default = 1
 width flag = 1
+width connection = 2
 width direction = 3
 
 abbrev pub row_width : List Field → ℕ
@@ -112,9 +137,16 @@ made form.Section (name, (material, (d, (t, (allowance, (extra, _)))))) =
 made form.Node (name, (x, (y, (z, _)))) = record_of.Node (record { name = name; x = x; y = y; z = z })
 made form.Straight (name, (from, (to, (section, _)))) =
     record_of.Element (record { name = name; from = record { 0 = from }; to = record { 0 = to }; section = record { 0 = section }; shape = Straight })
+made form.Bend (name, (from, (to, (section, (r, (angle, (x, (y, (z, _))))))))) =
+    record_of.Element (record { name = name; from = record { 0 = from }; to = record { 0 = to }; section = record { 0 = section }; shape = Bend r angle x y z })
+made form.Tee (node, (branch, (header, (kind, _)))) =
+    record_of.Tee (record { node = record { 0 = node }; branch = record { 0 = branch }; header = record { 0 = header }; kind = kind })
 made form.Anchor (name, (node, (kt, (kr, _)))) = record_of.Restraint (record { name = name; node = record { 0 = node }; kind = Anchor kt kr })
 made form.Linear (name, (node, (d, (k, _)))) = record_of.Restraint (record { name = name; node = record { 0 = node }; kind = Linear d.x d.y d.z k })
 made form.Twist (name, (node, (d, (k, _)))) = record_of.Restraint (record { name = name; node = record { 0 = node }; kind = Twist d.x d.y d.z k })
+made form.Oneway (name, (node, (d, (gap, (k, _))))) = record_of.Restraint (record { name = name; node = record { 0 = node }; kind = Oneway d.x d.y d.z gap k })
+made form.Gap (name, (node, (d, (gap, (k, _))))) = record_of.Restraint (record { name = name; node = record { 0 = node }; kind = Gap d.x d.y d.z gap k })
+made form.Hanger (name, (node, (rate, (load, _)))) = record_of.Restraint (record { name = name; node = record { 0 = node }; kind = Hanger rate load })
 made form.Case (name, (gx, (gy, (gz, (hangers, (dt, (p, _))))))) = record_of.Case (record { name = name; gx = gx; gy = gy; gz = gz; hangers = hangers; dt = dt; p = p })
 made form.Force (case, (node, (fx, (fy, (fz, (mx, (my, (mz, _)))))))) =
     record_of.Force (record { case = record { 0 = case }; node = record { 0 = node }; fx = fx; fy = fy; fz = fz; mx = mx; my = my; mz = mz })
@@ -134,8 +166,10 @@ abbrev pub read_field : Lists → (f : Field) → List (List ℕ) → ℕ → Re
 read_field m own_name ws k = name_at (word ws k)
 read_field m (name_in space) ws k = number_named m space (word ws k)
 read_field m (within range) ws k = number_in range (word ws k)
+read_field m bend_angle ws k = angle_at (word ws k)
 read_field m stiffness_or_default ws k = stiffness_in (word ws k)
 read_field m flag ws k = flag_at (word ws k)
+read_field m connection ws k = connection_at ws k
 read_field m direction ws k = direction_at ws k
 
 -- what the fields from word k on give, from the left, or the number of the first that is refused
@@ -161,12 +195,20 @@ stiffness_word (Some k) = signed_decimal k
 abbrev pub flag_word : Bool → List ℕ
 flag_word b = if b then codes "1" else codes "0"
 
+-- how a tee is made: its kind, and its thickness or coefficient
+abbrev pub connection_words : TeeKind → List (List ℕ)
+connection_words Unreinforced = codes "unreinforced" ∷ codes "0" ∷ []
+connection_words (Pad thickness) = codes "pad" ∷ signed_decimal thickness ∷ []
+connection_words (Coefficient c) = codes "coefficient" ∷ signed_decimal c ∷ []
+
 abbrev pub field_words : Lists → (f : Field) → Value f → List (List ℕ)
 field_words m own_name name = name ∷ []
 field_words m (name_in space) number = name_of m space number ∷ []
 field_words m (within range) n = signed_decimal n ∷ []
+field_words m bend_angle n = decimal n ∷ []
 field_words m stiffness_or_default k = stiffness_word k ∷ []
 field_words m flag b = flag_word b ∷ []
+field_words m connection kind = connection_words kind
 field_words m direction d = signed_decimal d.x ∷ signed_decimal d.y ∷ signed_decimal d.z ∷ []
 
 abbrev pub row_words : Lists → (fs : List Field) → Values fs → List (List ℕ)
@@ -177,18 +219,27 @@ row_words m (f ∷ fs) (v, vs) = field_words m f v ++ row_words m fs vs
 abbrev pub form_words : Lists → (f : Form) → Values (row f) → List (List ℕ)
 form_words m f vs = first_word f ∷ row_words m (row f) vs
 
+-- those of an element, by its shape
+abbrev pub element_words : Lists → List ℕ → ℕ → ℕ → ℕ → Shape → List (List ℕ)
+element_words m name from to section Straight = form_words m form.Straight (name, (from, (to, (section, tt))))
+element_words m name from to section (Bend r angle x y z) = form_words m form.Bend (name, (from, (to, (section, (r, (angle, (x, (y, (z, tt)))))))))
+
 -- those of a restraint, by its kind
 abbrev pub restraint_words : Lists → List ℕ → ℕ → RestraintKind → List (List ℕ)
 restraint_words m name node (Anchor kt kr) = form_words m form.Anchor (name, (node, (kt, (kr, tt))))
 restraint_words m name node (Linear dx dy dz k) = form_words m form.Linear (name, (node, (record { x = dx; y = dy; z = dz }, (k, tt))))
 restraint_words m name node (Twist dx dy dz k) = form_words m form.Twist (name, (node, (record { x = dx; y = dy; z = dz }, (k, tt))))
+restraint_words m name node (Oneway dx dy dz gap k) = form_words m form.Oneway (name, (node, (record { x = dx; y = dy; z = dz }, (gap, (k, tt)))))
+restraint_words m name node (Gap dx dy dz gap k) = form_words m form.Gap (name, (node, (record { x = dx; y = dy; z = dz }, (gap, (k, tt)))))
+restraint_words m name node (Hanger rate load) = form_words m form.Hanger (name, (node, (rate, (load, tt))))
 
 -- those of a record
 abbrev pub words_of : Lists → Record → List (List ℕ)
 words_of m (record_of.Material r) = form_words m form.Material (r.name, (r.e, (r.nu, (r.alpha, (r.rho, tt)))))
 words_of m (record_of.Section r) = form_words m form.Section (r.name, (r.material.0, (r.d, (r.t, (r.allowance, (r.extra, tt))))))
 words_of m (record_of.Node r) = form_words m form.Node (r.name, (r.x, (r.y, (r.z, tt))))
-words_of m (record_of.Element r) = form_words m form.Straight (r.name, (r.from.0, (r.to.0, (r.section.0, tt))))
+words_of m (record_of.Element r) = element_words m r.name r.from.0 r.to.0 r.section.0 r.shape
+words_of m (record_of.Tee r) = form_words m form.Tee (r.node.0, (r.branch.0, (r.header.0, (r.kind, tt))))
 words_of m (record_of.Restraint r) = restraint_words m r.name r.node.0 r.kind
 words_of m (record_of.Case r) = form_words m form.Case (r.name, (r.gx, (r.gy, (r.gz, (r.hangers, (r.dt, (r.p, tt)))))))
 words_of m (record_of.Force r) = form_words m form.Force (r.case.0, (r.node.0, (r.fx, (r.fy, (r.fz, (r.mx, (r.my, (r.mz, tt))))))))

@@ -1,12 +1,13 @@
 //! The fields of a record: what a word gives, or the number that refuses it.
 ghost use Rattle.std.specs.Prelude.{◌≡◌, ◌↔◌, pos, IsTrue, IfOk};
 ghost use Rattle.text_words.specs.Names.{IsName};
-ghost use Rattle.model_types.specs.Ranges.{IsIn, IsStiffness, IsDirection};
+ghost use Rattle.model_types.specs.Ranges.{IsIn, IsStiffness, IsDirection, TeeInForm};
+ghost use Rattle.angle_table.specs.HalfAngle.{is_bend_angle};
 ghost use Rattle.model_text.specs.Fields as field;
 
 use crate::words::Words;
-use model_types::ranges::{DIRECTION_PART, STIFFNESS};
-use model_types::{Name, Range};
+use model_types::ranges::{DIRECTION_PART, PAD_THICKNESS, STIFFNESS, TEE_COEFFICIENT};
+use model_types::{Name, Range, TeeKind};
 use text_words::{NumberFault, number};
 
 /// Refuses by a number where a test holds.
@@ -58,6 +59,61 @@ pub(crate) fn stiffness_in(word: &[u8]) -> Result<Option<i64>, u8>
     }
     let k = number_in(word, STIFFNESS)?;
     Ok(Some(k))
+}
+
+// What stands for no number.
+const NOTHING: Range = Range { least: 0, most: 0 };
+
+/// How a tee is made, in the words 4 and 5 of a line: 9 where the first is no kind of tee, before the second is looked at.
+#[tactic(auto, unfolding(crate::specs::Fields::connection_at))]
+pub(crate) fn connection_of(line: &Words) -> Result<TeeKind, u8>
+    ensures value { result ≡ field.connection_at line.now 4 }
+    ensures form { IfOk result TeeInForm }
+{
+    let kind = line.word(4);
+    let value = line.word(5);
+    if kind == b"unreinforced".as_slice() {
+        number_in(value, NOTHING)?;
+        return Ok(TeeKind::Unreinforced);
+    }
+    if kind == b"pad".as_slice() {
+        let thickness = number_in(value, PAD_THICKNESS)?;
+        return Ok(TeeKind::Pad(thickness));
+    }
+    if kind == b"coefficient".as_slice() {
+        let c = number_in(value, TEE_COEFFICIENT)?;
+        return Ok(TeeKind::Coefficient(c));
+    }
+    Err(9)
+}
+
+// From the least angle of a bend to the greatest.
+const ANGLE: Range = Range {
+    least: 22_500,
+    most: 180_000,
+};
+
+/// The angle of a bend, in thousandths of a degree: 7 where it is none of the six.
+#[tactic(auto, unfolding(crate::specs::Fields::angle_at))]
+pub(crate) fn angle_at(word: &[u8]) -> Result<u32, u8>
+    ensures value { result ≡ field.angle_at word.now }
+    ensures listed { IfOk result (λ angle. IsTrue (is_bend_angle angle)) }
+{
+    let angle = number_in(word, ANGLE)? as u32;
+    refuse_if(!is_listed(angle), 7)?;
+    Ok(angle)
+}
+
+// Whether a bend may have an angle.
+fn is_listed(angle: u32) -> bool
+    ensures { result ≡ is_bend_angle angle }
+{
+    angle == 22_500
+        || angle == 30_000
+        || angle == 45_000
+        || angle == 60_000
+        || angle == 90_000
+        || angle == 180_000
 }
 
 // 0 or 1.

@@ -1,9 +1,11 @@
 //! The reader of the model text.
 ghost use Rattle.std.specs.Prelude.{◌≡◌, ◌<◌, IsOkAnd, ◌≤◌, ℕ, length, Ok, Err, OnOk, IfOk};
 ghost use Rattle.model_types.specs.Kinds.{node_kind, count, place};
-ghost use Rattle.model_types.specs.Ranges.{InForm};
+ghost use Rattle.model_types.specs.Ranges.{InForm, ShapeInForm};
+ghost use Rattle.model_types.specs.Refusals.{IsSineFor, IsSineOf};
 ghost use Rattle.model_types.specs.Rules.{IsModel};
 ghost use Rattle.model_text.specs.Lines as line_of;
+ghost use Rattle.model_text.specs.Lines.{start};
 ghost use Rattle.model_text.specs.Grammar as grammar;
 ghost use Rattle.model_text.specs.Rows.{kind_made};
 ghost use Rattle.model_text.specs.Words.{words, word};
@@ -11,7 +13,8 @@ ghost use Rattle.text_words.specs.Fields.{lines};
 
 use crate::records::{Form, form_of, record_of_words};
 use crate::words::{Words, is_allowed};
-use model_types::{AddFault, Bounds, Case, Draft, Model, NodeId, Record};
+use angle_table::half;
+use model_types::{AddFault, Bounds, Case, Draft, Model, NodeId, Record, Shape, WholeFault};
 use std::alloc::{AllocError, Global};
 use text_words::cut_line;
 use thiserror::Error;
@@ -55,9 +58,6 @@ impl std::marker::Model for Reading {
     ghost view = { λ r. record { header = r.header; draft = r.draft } };
 }
 
-// No record here is a bend, so the sine of its half angle isn't looked at.
-const NO_SINE: Bounds = Bounds { lo: 0, hi: 0 };
-
 /// Reads a text of at most 4,194,304 bytes. A text is refused by its first faulty line, or for what it lacks as a whole.
 pub fn read(alloc: Global, text: &[u8]) -> Result<Model, TextFault>
     ensures model { IfOk result (λ model. grammar.parsed text.now ≡ Ok model) }
@@ -79,9 +79,10 @@ pub fn grammar_is_told()
     ensures accepted { grammar.ModelsAreAccepted }
 {}
 
-/// What shows that the line of a record leaves no choice: one line makes it.
+/// What shows that the line of a record leaves no choice: one line makes it, and the grammar's line of a record is that line.
 pub fn lines_are_determined()
-    ensures { grammar.LinesAreDetermined }
+    ensures one { grammar.LinesAreDetermined }
+    ensures told { grammar.LinesAreTold }
 {}
 
 /// What the cases of an accepted text are, since a case with a load of its own is refused: nothing but forces acts in them.
@@ -105,7 +106,7 @@ fn read_lines(alloc: Global, text: &[u8]) -> Result<Model, TextFault>
         draft,
     };
     match take_lines(&mut reading, text) {
-        Ok(()) => whole(reading),
+        Ok(()) => whole(reading, text),
         Err(fault) => {
             drop(reading);
             Err(fault)
@@ -113,12 +114,14 @@ fn read_lines(alloc: Global, text: &[u8]) -> Result<Model, TextFault>
     }
 }
 
-// The model of all lines.
-fn whole(reading: Reading) -> Result<Model, TextFault>
+// The model of all lines of a text.
+fn whole(reading: Reading, text: &[u8]) -> Result<Model, TextFault>
+    requires short { length text.now ≤ LONGEST_TEXT }
+    requires read { grammar.after_lines start 1 (lines text.now) ≡ Ok reading }
     ensures rules { IfOk result IsModel }
-    ensures model { IfOk result (λ model. grammar.whole (Ok reading) ≡ Ok model) }
+    ensures model { IfOk result (λ model. grammar.whole (lines text.now) (Ok reading) ≡ Ok model) }
     ensures refused { (number line : ℕ) → result ≡ Err (TextFault.Refused number line)
-        → grammar.whole (Ok reading) ≡ Err (record { number = number; line = line }) }
+        → grammar.whole (lines text.now) (Ok reading) ≡ Err (record { number = number; line = line }) }
 {
     if !reading.header {
         drop(reading);
@@ -126,9 +129,13 @@ fn whole(reading: Reading) -> Result<Model, TextFault>
     }
     match reading.draft.finish() {
         Ok(model) => Ok(model),
-        Err(_) => Err(TextFault::Refused {
+        Err(WholeFault::Missing) => Err(TextFault::Refused {
             number: 15,
             line: 1,
+        }),
+        Err(WholeFault::Tee(number)) => Err(TextFault::Refused {
+            number: 12,
+            line: record_line(text, Form::Tee, number),
         }),
     }
 }
@@ -163,7 +170,8 @@ pub fn node_line(text: &[u8], node: NodeId) -> u32
 
 // The line of the record of that number, among those of the kind of a form.
 fn record_line(text: &[u8], form: Form, number: u32) -> u32
-    requires { IsOkAnd (grammar.parsed text.now) (λ model. number < count model (kind_made form)) }
+    requires short { length text.now ≤ LONGEST_TEXT }
+    requires there { IsOkAnd (grammar.after_lines start 1 (lines text.now)) (λ read. number < count read.draft (kind_made form)) }
     ensures { grammar.IsLineOf text.now (kind_made form) number result }
 {
     let mut rest = Some(text);
@@ -201,10 +209,12 @@ fn place(form: Form) -> u8
         Form::Material => 0,
         Form::Section => 1,
         Form::Node => 2,
-        Form::Straight => 3,
-        Form::Anchor | Form::Linear | Form::Twist => 4,
-        Form::Case => 5,
-        Form::Force => 6,
+        Form::Straight | Form::Bend => 3,
+        Form::Tee => 4,
+        Form::Anchor | Form::Linear | Form::Twist => 5,
+        Form::Oneway | Form::Gap | Form::Hanger => 5,
+        Form::Case => 6,
+        Form::Force => 7,
     }
 }
 
@@ -264,13 +274,44 @@ fn judge(draft: &mut Draft, found: Record) -> Result<(), AddFault>
     ensures ok { OnOk result (line_of.taken draft.old found ≡ Ok draft.new) }
     ensures refused { (number : ℕ) → result ≡ Err (AddFault.Refused number) → line_of.taken draft.old found ≡ Err number }
 {
-    if let Err(fault) = draft.add(found, NO_SINE) {
+    if let Err(fault) = draft.add(found, sine_for(&found)) {
         return Err(fault);
     }
     if is_loaded_case(&found) {
         return Err(AddFault::Refused(17));
     }
     Ok(())
+}
+
+// For a bend the ends of the sine of half its angle; nothing looks at those of another record.
+fn sine_for(found: &Record) -> Bounds
+    requires { InForm found.now }
+    ensures { IsSineFor found.now result }
+{
+    match found {
+        Record::Element(element) => sine_of(element.shape),
+        Record::Material(_) | Record::Section(_) | Record::Node(_) => NO_SINE,
+        Record::Tee(_) | Record::Restraint(_) => NO_SINE,
+        Record::Case(_) | Record::Force(_) => NO_SINE,
+    }
+}
+
+const NO_SINE: Bounds = Bounds { lo: 0, hi: 0 };
+
+fn sine_of(shape: Shape) -> Bounds
+    requires { ShapeInForm shape }
+    ensures { IsSineOf shape result }
+{
+    match shape {
+        Shape::Straight => NO_SINE,
+        Shape::Bend { angle, .. } => {
+            let sine = half(angle).sin;
+            Bounds {
+                lo: sine.lo,
+                hi: sine.hi,
+            }
+        }
+    }
 }
 
 // Whether the record is a case with a load of its own, which isn't read yet.
@@ -280,7 +321,8 @@ fn is_loaded_case(found: &Record) -> bool
     match found {
         Record::Case(case) => !is_at_rest(case),
         Record::Material(_) | Record::Section(_) | Record::Node(_) => false,
-        Record::Element(_) | Record::Restraint(_) | Record::Force(_) => false,
+        Record::Element(_) | Record::Tee(_) => false,
+        Record::Restraint(_) | Record::Force(_) => false,
     }
 }
 

@@ -5,15 +5,18 @@ ghost use Rattle.model_types.specs.Ranges.{InForm};
 ghost use Rattle.model_text.specs.Records as record_of;
 ghost use Rattle.model_text.specs.Rows as row_of;
 
-use crate::fields::{direction_of, flag_at, name_at, number_in, refuse_if, stiffness_in};
+use crate::fields::{
+    angle_at, connection_of, direction_of, flag_at, name_at, number_in, refuse_if, stiffness_in,
+};
 use crate::words::Words;
 use model_types::ranges::{
-    ACCELERATION, COORDINATE, DENSITY, DIAMETER, EXPANSION, EXTRA_WEIGHT, LOAD, MODULUS,
-    POISSON_RATIO, PRESSURE, TEMPERATURE_CHANGE, WALL, WALL_ALLOWANCE,
+    ACCELERATION, BEND_RADIUS, COORDINATE, CORNER, DENSITY, DIAMETER, EXPANSION, EXTRA_WEIGHT, GAP,
+    HANGER_LOAD, LOAD, MODULUS, POISSON_RATIO, PRESSURE, STIFFNESS, TEMPERATURE_CHANGE, WALL,
+    WALL_ALLOWANCE,
 };
 use model_types::{
-    Case, CaseId, Draft, Element, Force, Material, MaterialId, Node, NodeId, Record, Restraint,
-    RestraintKind, Section, SectionId, Shape, Space,
+    Case, CaseId, Draft, Element, ElementId, Force, Material, MaterialId, Node, NodeId, Record,
+    Restraint, RestraintKind, Section, SectionId, Shape, Space, Tee,
 };
 
 /// The forms of records, each with a first word of its own.
@@ -23,9 +26,14 @@ pub(crate) enum Form {
     Section,
     Node,
     Straight,
+    Bend,
+    Tee,
     Anchor,
     Linear,
     Twist,
+    Oneway,
+    Gap,
+    Hanger,
     Case,
     Force,
 }
@@ -47,6 +55,12 @@ pub(crate) fn form_of(word: &[u8]) -> Option<Form>
     if word == b"straight".as_slice() {
         return Some(Form::Straight);
     }
+    if word == b"bend".as_slice() {
+        return Some(Form::Bend);
+    }
+    if word == b"tee".as_slice() {
+        return Some(Form::Tee);
+    }
     if word == b"anchor".as_slice() {
         return Some(Form::Anchor);
     }
@@ -55,6 +69,15 @@ pub(crate) fn form_of(word: &[u8]) -> Option<Form>
     }
     if word == b"twist".as_slice() {
         return Some(Form::Twist);
+    }
+    if word == b"oneway".as_slice() {
+        return Some(Form::Oneway);
+    }
+    if word == b"gap".as_slice() {
+        return Some(Form::Gap);
+    }
+    if word == b"hanger".as_slice() {
+        return Some(Form::Hanger);
     }
     if word == b"case".as_slice() {
         return Some(Form::Case);
@@ -87,9 +110,14 @@ fn record_in(draft: &Draft, form: Form, line: &Words) -> Result<Record, u8>
         Form::Section => section(draft, line),
         Form::Node => node(line),
         Form::Straight => straight(draft, line),
+        Form::Bend => bend(draft, line),
+        Form::Tee => tee(draft, line),
         Form::Anchor => anchor(draft, line),
         Form::Linear => linear(draft, line),
         Form::Twist => twist(draft, line),
+        Form::Oneway => oneway(draft, line),
+        Form::Gap => gap(draft, line),
+        Form::Hanger => hanger(draft, line),
         Form::Case => case(line),
         Form::Force => force(draft, line),
     }
@@ -99,12 +127,7 @@ fn record_in(draft: &Draft, form: Form, line: &Words) -> Result<Record, u8>
 fn is_unbuilt(word: &[u8]) -> bool
     ensures { result ≡ record_of.is_unbuilt word.now }
 {
-    word == b"bend".as_slice()
-        || word == b"tee".as_slice()
-        || word == b"oneway".as_slice()
-        || word == b"gap".as_slice()
-        || word == b"hanger".as_slice()
-        || word == b"temp".as_slice()
+    word == b"temp".as_slice()
         || word == b"pressure".as_slice()
         || word == b"move".as_slice()
         || word == b"check".as_slice()
@@ -192,6 +215,55 @@ fn straight(draft: &Draft, line: &Words) -> Result<Record, u8>
     }))
 }
 
+// bend NAME FROM TO SECTION R ANGLE PX PY PZ
+fn bend(draft: &Draft, line: &Words) -> Result<Record, u8>
+    ensures value { result ≡ row_of.record_in draft.now Form.Bend line.now }
+    ensures form { IfOk result InForm }
+{
+    refuse_if(line.count() != 10, 5)?;
+    let name = name_at(line.word(1))?;
+    let from = NodeId(number_named(draft, Space::Node, line.word(2))?);
+    let to = NodeId(number_named(draft, Space::Node, line.word(3))?);
+    let section = SectionId(number_named(draft, Space::Section, line.word(4))?);
+    let r = number_in(line.word(5), BEND_RADIUS)?;
+    let angle = angle_at(line.word(6))?;
+    let px = number_in(line.word(7), CORNER)?;
+    let py = number_in(line.word(8), CORNER)?;
+    let pz = number_in(line.word(9), CORNER)?;
+    let shape = Shape::Bend {
+        r,
+        angle,
+        px,
+        py,
+        pz,
+    };
+    Ok(Record::Element(Element {
+        name,
+        from,
+        to,
+        section,
+        shape,
+    }))
+}
+
+// tee NODE BRANCH HEADER KIND VALUE
+fn tee(draft: &Draft, line: &Words) -> Result<Record, u8>
+    ensures value { result ≡ row_of.record_in draft.now Form.Tee line.now }
+    ensures form { IfOk result InForm }
+{
+    refuse_if(line.count() != 6, 5)?;
+    let node = NodeId(number_named(draft, Space::Node, line.word(1))?);
+    let branch = ElementId(number_named(draft, Space::Element, line.word(2))?);
+    let header = SectionId(number_named(draft, Space::Section, line.word(3))?);
+    let kind = connection_of(line)?;
+    Ok(Record::Tee(Tee {
+        node,
+        branch,
+        header,
+        kind,
+    }))
+}
+
 // anchor NAME NODE KT KR
 fn anchor(draft: &Draft, line: &Words) -> Result<Record, u8>
     ensures value { result ≡ row_of.record_in draft.now Form.Anchor line.now }
@@ -241,6 +313,62 @@ fn twist(draft: &Draft, line: &Words) -> Result<Record, u8>
         dz: d.z,
         k,
     };
+    Ok(Record::Restraint(Restraint { name, node, kind }))
+}
+
+// oneway NAME NODE DX DY DZ GAP K
+fn oneway(draft: &Draft, line: &Words) -> Result<Record, u8>
+    ensures value { result ≡ row_of.record_in draft.now Form.Oneway line.now }
+    ensures form { IfOk result InForm }
+{
+    refuse_if(line.count() != 8, 5)?;
+    let name = name_at(line.word(1))?;
+    let node = NodeId(number_named(draft, Space::Node, line.word(2))?);
+    let d = direction_of(line)?;
+    let gap = number_in(line.word(6), GAP)?;
+    let k = stiffness_in(line.word(7))?;
+    let kind = RestraintKind::Oneway {
+        dx: d.x,
+        dy: d.y,
+        dz: d.z,
+        gap,
+        k,
+    };
+    Ok(Record::Restraint(Restraint { name, node, kind }))
+}
+
+// gap NAME NODE DX DY DZ GAP K
+fn gap(draft: &Draft, line: &Words) -> Result<Record, u8>
+    ensures value { result ≡ row_of.record_in draft.now Form.Gap line.now }
+    ensures form { IfOk result InForm }
+{
+    refuse_if(line.count() != 8, 5)?;
+    let name = name_at(line.word(1))?;
+    let node = NodeId(number_named(draft, Space::Node, line.word(2))?);
+    let d = direction_of(line)?;
+    let gap = number_in(line.word(6), GAP)?;
+    let k = stiffness_in(line.word(7))?;
+    let kind = RestraintKind::Gap {
+        dx: d.x,
+        dy: d.y,
+        dz: d.z,
+        gap,
+        k,
+    };
+    Ok(Record::Restraint(Restraint { name, node, kind }))
+}
+
+// hanger NAME NODE RATE LOAD
+fn hanger(draft: &Draft, line: &Words) -> Result<Record, u8>
+    ensures value { result ≡ row_of.record_in draft.now Form.Hanger line.now }
+    ensures form { IfOk result InForm }
+{
+    refuse_if(line.count() != 5, 5)?;
+    let name = name_at(line.word(1))?;
+    let node = NodeId(number_named(draft, Space::Node, line.word(2))?);
+    let rate = number_in(line.word(3), STIFFNESS)?;
+    let load = number_in(line.word(4), HANGER_LOAD)?;
+    let kind = RestraintKind::Hanger { rate, load };
     Ok(Record::Restraint(Restraint { name, node, kind }))
 }
 

@@ -13,8 +13,9 @@ ghost use Rattle.text_words.specs.Fields.{line};
 use crate::reader::LONGEST_TEXT;
 use itoa::Buffer;
 use model_types::{
-    Case, CaseId, Element, Force, Material, MaterialId, Model, NoMemory, Node, NodeId, Restraint,
-    RestraintKind, Section, SectionId, records_follow,
+    Case, CaseId, Element, ElementId, Force, Material, MaterialId, Model, NoMemory, Node, NodeId,
+    Restraint, RestraintKind, Section, SectionId, Shape, Tee, TeeKind, records_follow,
+    tees_are_judged,
 };
 use std::alloc::Global;
 use text_words::push_line;
@@ -28,9 +29,11 @@ pub fn echo(alloc: Global, model: &Model) -> Result<Vec<u8>, NoMemory>
     ensures canonical { IfOk result (λ text. text.items ≡ text_of.canonical model.now) }
     ensures reads_back { IfOk result (λ text. AreCasesAtRest model.now → length text.items ≤ LONGEST_TEXT → parsed text.items ≡ Ok model.now) }
 {
-    // Each list of a model says that the model keeps the rules, and the law that its records can be read in order.
+    // Each list of a model says that the model keeps the rules, and the laws that its records can be read in order and that no
+    // tee is broken.
     let _nodes = model.nodes();
     records_follow();
+    tees_are_judged();
     all_lines(alloc, model)
 }
 
@@ -45,6 +48,7 @@ fn all_lines(alloc: Global, model: &Model) -> Result<Vec<u8>, NoMemory>
     put_all(&mut out, model, model.sections())?;
     put_all(&mut out, model, model.nodes())?;
     put_all(&mut out, model, model.elements())?;
+    put_all(&mut out, model, model.tees())?;
     put_all(&mut out, model, model.restraints())?;
     put_all(&mut out, model, model.cases())?;
     put_all(&mut out, model, model.forces())?;
@@ -133,16 +137,55 @@ impl Lined for Element {
     ghost as_record = { record_of.Element };
 
     fn put(&self, out: &mut Vec<u8>, model: &Model) -> Result<(), NoMemory> {
-        push_line(
-            out,
-            &[
-                b"straight",
-                self.name.bytes(),
-                node_name(model, self.from),
-                node_name(model, self.to),
-                section_name(model, self.section),
-            ],
-        )
+        let name = self.name.bytes();
+        let from = node_name(model, self.from);
+        let to = node_name(model, self.to);
+        let section = section_name(model, self.section);
+        match self.shape {
+            Shape::Straight => push_line(out, &[b"straight", name, from, to, section]),
+            Shape::Bend {
+                r,
+                angle,
+                px,
+                py,
+                pz,
+            } => {
+                let (mut a, mut b) = (Buffer::new(), Buffer::new());
+                let (r, angle) = (a.format(r).as_bytes(), b.format(angle).as_bytes());
+                let (mut x, mut y) = (Buffer::new(), Buffer::new());
+                let (px, py) = (x.format(px).as_bytes(), y.format(py).as_bytes());
+                let mut z = Buffer::new();
+                let pz = z.format(pz).as_bytes();
+                push_line(
+                    out,
+                    &[b"bend", name, from, to, section, r, angle, px, py, pz],
+                )
+            }
+        }
+    }
+}
+
+impl Lined for Tee {
+    ghost as_record = { record_of.Tee };
+
+    fn put(&self, out: &mut Vec<u8>, model: &Model) -> Result<(), NoMemory> {
+        let node = node_name(model, self.node);
+        let branch = element_name(model, self.branch);
+        let header = section_name(model, self.header);
+        let mut buffer = Buffer::new();
+        let (kind, value) = connection(&mut buffer, self.kind);
+        push_line(out, &[b"tee", node, branch, header, kind, value])
+    }
+}
+
+// How a tee is made: the word of its kind, and its number.
+fn connection(buffer: &mut Buffer, kind: TeeKind) -> (&[u8], &[u8])
+    ensures { row_of.connection_words kind ≡ result.0.now ∷ result.1.now ∷ [] }
+{
+    match kind {
+        TeeKind::Unreinforced => (b"unreinforced", b"0"),
+        TeeKind::Pad(thickness) => (b"pad", buffer.format(thickness).as_bytes()),
+        TeeKind::Coefficient(c) => (b"coefficient", buffer.format(c).as_bytes()),
     }
 }
 
@@ -160,6 +203,13 @@ impl Lined for Restraint {
             RestraintKind::Twist { dx, dy, dz, k } => {
                 put_along(out, b"twist", name, node, dx, dy, dz, k)
             }
+            RestraintKind::Oneway { dx, dy, dz, gap, k } => put_stop(
+                out, b"oneway", name, node, dx, dy, dz, gap, k,
+            ),
+            RestraintKind::Gap { dx, dy, dz, gap, k } => put_stop(
+                out, b"gap", name, node, dx, dy, dz, gap, k,
+            ),
+            RestraintKind::Hanger { rate, load } => put_hanger(out, name, node, rate, load),
         }
     }
 }
@@ -199,6 +249,46 @@ fn put_along<'a>(
     let dz = z.format(dz).as_bytes();
     let k = stiffness(&mut last, k);
     push_line(out, &[kind, name, node, dx, dy, dz, k])
+}
+
+// A restraint along a direction, with a gap.
+fn put_stop<'a>(
+    out: &mut Vec<u8>,
+    kind: &'a [u8],
+    name: &'a [u8],
+    node: &'a [u8],
+    dx: i64,
+    dy: i64,
+    dz: i64,
+    gap: i64,
+    k: Option<i64>,
+) -> Result<(), NoMemory>
+    ensures { OnOk result (out.new.items ≡ out.old.items ++ line (kind.now ∷ name.now ∷ node.now ∷ signed_decimal dx ∷ signed_decimal dy ∷ signed_decimal dz ∷ signed_decimal gap ∷ row_of.stiffness_word k ∷ [])) }
+{
+    let (mut x, mut y) = (Buffer::new(), Buffer::new());
+    let (mut z, mut between) = (Buffer::new(), Buffer::new());
+    let mut last = Buffer::new();
+    let dx = x.format(dx).as_bytes();
+    let dy = y.format(dy).as_bytes();
+    let dz = z.format(dz).as_bytes();
+    let gap = between.format(gap).as_bytes();
+    let k = stiffness(&mut last, k);
+    push_line(out, &[kind, name, node, dx, dy, dz, gap, k])
+}
+
+fn put_hanger(
+    out: &mut Vec<u8>,
+    name: &[u8],
+    node: &[u8],
+    rate: i64,
+    load: i64,
+) -> Result<(), NoMemory>
+    ensures { OnOk result (out.new.items ≡ out.old.items ++ line (codes "hanger" ∷ name.now ∷ node.now ∷ signed_decimal rate ∷ signed_decimal load ∷ [])) }
+{
+    let (mut first, mut second) = (Buffer::new(), Buffer::new());
+    let rate = first.format(rate).as_bytes();
+    let load = second.format(load).as_bytes();
+    push_line(out, &[b"hanger", name, node, rate, load])
 }
 
 // A stiffness, or `-` for the default.
@@ -283,6 +373,16 @@ fn node_name(model: &Model, node: NodeId) -> &[u8]
     ensures { result.now ≡ row_of.name_of model.now space_of.Node node.0 }
 {
     match model.nodes().get(node.0 as usize) {
+        Some(r) => r.name.bytes(),
+        None => b"",
+    }
+}
+
+// The name of an element, or nothing where there is none of that number.
+fn element_name(model: &Model, element: ElementId) -> &[u8]
+    ensures { result.now ≡ row_of.name_of model.now space_of.Element element.0 }
+{
+    match model.elements().get(element.0 as usize) {
         Some(r) => r.name.bytes(),
         None => b"",
     }

@@ -1,18 +1,22 @@
 -- How the rules go over to a model with more records, and to the records before one.
-use Rattle.std.proofs.Common.{◌≡◌, ◌≢◌, ℕ, ◌<◌, ◌≤◌, IsTrue, is_some, true≢false, false, List, [], ◌∷◌, ◌++◌, ⊎_elim, map, take, length, length-append, get_or, slice_get, position, Option, Some, None, All, AllPairs, Contains, IsNone, nat_eq, refl, sym, ap, subst, ◌∙◌, arith}
+use Rattle.std.proofs.Common.{◌≡◌, ◌≢◌, ℕ, ◌<◌, ◌≤◌, Bool, true, false, IsTrue, is_some, true≢false, List, [], ◌∷◌, ◌++◌, ⊎_elim, map, take, length, length-append, get_or, slice_get, position, Option, Some, None, All, AllPairs, Contains, IsNone, nat_eq, refl, sym, ap, subst, ◌∙◌, arith}
+use Rattle.std.proofs.lemmas.Bool.{cond-true, cond-false}
 use Rattle.std.proofs.lemmas.List.{length-map, length-take, map-append, get_or_push, get_or-take, take-map}
 use Rattle.std.proofs.lemmas.Option.{slice_get-get_or, slice_get_within, get_or_from_slice_get, slice_get-map, none-some}
 use Rattle.std.proofs.Math.ListN.{get_or-append}
 use Rattle.std.specs.Cmp.Lexicographic.{pointwise}
 use Rattle.std.specs.Option.{option_map}
+use Rattle.model_types.specs.declared.ranges.TheConstants.{MOST_STOPS}
+use Rattle.model_types.specs.declared.records.Section.{Section}
 use Rattle.model_types.specs.declared.records.Node.{Node}
 use Rattle.model_types.specs.declared.records.Record.{Record}
 use Rattle.model_types.specs.declared.records.Record.TheVariants as record_of
-use Rattle.model_types.specs.Kinds.{Kind, material_kind, section_kind, node_kind, element_kind, restraint_kind, case_kind, force_kind, place, Of, list, as_record, kind_of, value_of, count, most, is_keyed, key, keys, Ref, refs, AreThere, cut, before, Extends}
+use Rattle.model_types.specs.Kinds.{Kind, material_kind, section_kind, node_kind, element_kind, tee_kind, restraint_kind, case_kind, force_kind, place, Of, list, as_record, kind_of, value_of, count, most, is_keyed, key, keys, Ref, refs, AreThere, has_stop, stop_count, cut, before, Extends}
 use Rattle.model_types.specs.Lists.{Lists, no_records, added}
 use Rattle.model_types.specs.Rules.{KeepsOwn, Keeps, KeepsRules, MayBeNext, IsModel}
 use Rattle.model_types.specs.Ranges.{NodeInForm}
-use Rattle.model_types.proofs.KindLemmas.{of_kind, of_record, added_elim, slice_get-append_below, slice_get-push, slice_get-last, slice_get-take, length-slices, cut-within, cut-more, cut-own}
+use Rattle.model_types.specs.Tees.{IsTee}
+use Rattle.model_types.proofs.KindLemmas.{of_kind, of_record, added_elim, slice_get-append_below, slice_get-push, slice_get-last, slice_get-take, stop_count-before, length-slices, cut-within, cut-more, cut-own}
 use Rattle.model_types.proofs.NameLists.{distinct_names_push, position-Contains}
 
 module _ (m n : Lists) (more : Extends m n) where
@@ -29,11 +33,21 @@ module _ (m n : Lists) (more : Extends m n) where
       let same = more node_kind i (get_or m.nodes i a) here in
       cc
 
+  section-Extends : (i : ℕ) (s : Section) → i < length m.sections → slice_get n.sections i ≡ Some s → slice_get m.sections i ≡ Some s
+  section-Extends i s inside there =
+      let here = slice_get-get_or m.sections i s inside in
+      let same = more section_kind i (get_or m.sections i s) here in
+      cc
+
   own-Extends : (r : Record) → AreThere m (refs r) → KeepsOwn m r → KeepsOwn n r
   own-Extends (record_of.Material r) known own = own
   own-Extends (record_of.Section r) known own = own
   own-Extends (record_of.Node r) known own = own
-  own-Extends (record_of.Element r) known own = λ a b at_from at_to. own a b (node-Extends r.from.0 a known.0 at_from) (node-Extends r.to.0 b known.1.0 at_to)
+  own-Extends (record_of.Element r) known own = record {
+    span = λ a b at_from at_to. own.span a b (node-Extends r.from.0 a known.0 at_from) (node-Extends r.to.0 b known.1.0 at_to);
+    shape = λ a b s at_from at_to at_section. own.shape a b s (node-Extends r.from.0 a known.0 at_from) (node-Extends r.to.0 b known.1.0 at_to) (section-Extends r.section.0 s known.1.1.0 at_section);
+  }
+  own-Extends (record_of.Tee r) known own = own
   own-Extends (record_of.Restraint r) known own = own
   own-Extends (record_of.Case r) known own = own
   own-Extends (record_of.Force r) known own = own
@@ -67,12 +81,13 @@ no_records_keep = record {
   records = λ k i x e. absurd (none-some x (sym (ap (λ l. slice_get l i) (of_kind k).none) ∙ e));
   distinct = λ k keyed. subst (AllPairs (λ a b. a ≢ b)) (sym ((of_kind k).keyed no_records ∙ ap (map (λ x. key (as_record k x))) (of_kind k).none)) (λ i j d before inside. absurd (omega arith));
   limits = λ k. omega (arith, (of_kind k).counted no_records, ap length (of_kind k).none);
+  stops = omega arith;
   other_kinds = refl;
 }
 
--- rules that are kept, and a node, make a model
-pub IsModel-from : (m : Lists) → KeepsRules m → m.nodes ≢ [] → IsModel m
-IsModel-from m rules some = record { rules = rules; some_node = not_empty m.nodes some; kept = record { materials = all_keep m rules material_kind; sections = all_keep m rules section_kind; nodes = all_keep m rules node_kind; elements = all_keep m rules element_kind; restraints = all_keep m rules restraint_kind; cases = all_keep m rules case_kind; forces = all_keep m rules force_kind }; few = record { materials = rules.limits material_kind; sections = rules.limits section_kind; nodes = rules.limits node_kind; elements = rules.limits element_kind; restraints = rules.limits restraint_kind; cases = rules.limits case_kind; forces = rules.limits force_kind } }
+-- rules that are kept, a node, and tees that are made, make a model
+pub IsModel-from : (m : Lists) → KeepsRules m → m.nodes ≢ [] → All (IsTee m) m.tees → IsModel m
+IsModel-from m rules some tees = record { rules = rules; some_node = not_empty m.nodes some; tees_made = tees; kept = record { materials = all_keep m rules material_kind; sections = all_keep m rules section_kind; nodes = all_keep m rules node_kind; elements = all_keep m rules element_kind; tees = all_keep m rules tee_kind; restraints = all_keep m rules restraint_kind; cases = all_keep m rules case_kind; forces = all_keep m rules force_kind }; few = record { materials = rules.limits material_kind; sections = rules.limits section_kind; nodes = rules.limits node_kind; elements = rules.limits element_kind; tees = rules.limits tee_kind; restraints = rules.limits restraint_kind; cases = rules.limits case_kind; forces = rules.limits force_kind } }
 
 pub nodes_in_form : (m : Lists) → KeepsRules m → All NodeInForm m.nodes
 nodes_in_form m rules = λ i d inside. (all_keep m rules node_kind i d inside).form
@@ -126,6 +141,10 @@ module _ (m : Lists) (r : Record) where
         λ there. next.new keyed (subst (λ names. Contains names (key r)) (sym ((of_kind (kind_of r)).keyed m)) (subst (Contains (map (key_in (kind_of r)) of_its_kind)) (sym is) there)) in
         distinct_names_push (key_in (kind_of r)) of_its_kind (value_of r) (keys_differ (kind_of r) keyed) (absent_key _ _ absent)
 
+    stops_fit : (stop : Bool) → has_stop r ≡ stop → stop_count (added m r).restraints ≤ MOST_STOPS
+    stops_fit true is = omega (arith, (of_record r).stops_are m, cond-true {A = ℕ} (has_stop r) 1 0 is, next.stop_room is)
+    stops_fit false is = omega (arith, (of_record r).stops_are m, cond-false {A = ℕ} (has_stop r) 1 0 is, rules.stops)
+
     pub KeepsRules-added : KeepsRules (added m r)
     KeepsRules-added = record {
       records = added_elim m r (λ j ys. (i : ℕ) (x : Of j) → slice_get ys i ≡ Some x → Keeps (before (added m r) j i) (as_record j x)) its_kind_keeps earlier_keep;
@@ -133,6 +152,7 @@ module _ (m : Lists) (r : Record) where
           (added_elim m r (λ j ys. IsTrue (is_keyed j) → AllPairs (λ a b. a ≢ b) (map (key_in j) ys)) its_key_differs keys_differ j keyed);
       limits = λ j. subst (λ n. n ≤ most j) (sym ((of_kind j).counted (added m r)))
           (added_elim m r (λ j ys. length ys ≤ most j) (omega (arith, length-append of_its_kind (value_of r ∷ []), (of_kind (kind_of r)).counted m, next.room)) (λ j. omega (arith, (of_kind j).counted m, rules.limits j)) j);
+      stops = stops_fit (has_stop r) refl;
       other_kinds = (of_record r).others_are m ∙ rules.other_kinds;
     }
 
@@ -163,7 +183,13 @@ module _ (m : Lists) (r : Record) where
             let last : get_or (names ++ key r ∷ []) (length names) (key r) ≡ key r = get_or_push names (key r) (key r) (length names) refl in
             differ there.0 (length names) (key r) there.1 last_in (earlier ∙ sym last);
         room = omega (arith, (of_kind (kind_of r)).counted m, (of_kind (kind_of r)).counted (added m r), ap length ((of_record r).added_is m), length-append of_its_kind (value_of r ∷ []), rules.limits (kind_of r));
+        stop_room = λ stop. omega (arith, (of_record r).stops_are m, cond-true {A = ℕ} (has_stop r) 1 0 stop, rules.stops);
       }
+
+-- before a stop of a model there is room for one
+stops_before : (m : Lists) (rules : KeepsRules m) (i : ℕ) (k : Kind) (x : Of k) → slice_get (list m k) i ≡ Some x → IsTrue (has_stop (as_record k x)) → stop_count (before m k i).restraints < MOST_STOPS
+stops_before m rules i restraint_kind x at stop = omega (arith, stop_count-before m.restraints i x at stop, rules.stops)
+stops_before m rules i k x at stop = absurd (true≢false (sym stop))
 
 -- each record might be the next of those before it
 module _ (m : Lists) (rules : KeepsRules m) (k : Kind) (i : ℕ) (x : Of k) (at : slice_get (list m k) i ≡ Some x) where
@@ -184,6 +210,9 @@ module _ (m : Lists) (rules : KeepsRules m) (k : Kind) (i : ℕ) (x : Of k) (at 
       sym (get_or-take i names found.0 (key_in x) short) ∙ ap (λ l. get_or l found.0 (key_in x)) (take-map key_in i (list m k)) ∙ found.2 in
       differ found.0 i (key_in x) short (omega (arith, length-map (list m k) key_in)) (earlier ∙ sym last)
 
+  stop_room : IsTrue (has_stop (as_record k x)) → stop_count (before m k i).restraints < MOST_STOPS
+  stop_room = stops_before m rules i k x at
+
   pub MayBeNext-record : MayBeNext (before m k i) (as_record k x)
   MayBeNext-record =
       let is = sym ((of_kind k).kind_is x) in
@@ -194,4 +223,5 @@ module _ (m : Lists) (rules : KeepsRules m) (k : Kind) (i : ℕ) (x : Of k) (at 
         keeps = rules.records k i x at;
         new = subst (λ j. IsTrue (is_keyed j) → ¬ (Contains (keys (before m k i) j) (key (as_record k x)))) is new_key;
         room = subst (λ j. count (before m k i) j < most j) is few;
+        stop_room = stop_room;
       }

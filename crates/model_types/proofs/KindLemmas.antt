@@ -1,11 +1,14 @@
 -- Lemmas on kinds, and on a list cut at a place.
-use Rattle.std.proofs.Common.{◌≡◌, ℕ, zero, suc, ◌<◌, ◌≤◌, ◌==◌, nat_lt, Bool, true, false, List, [], ◌∷◌, ◌++◌, ◌⊎◌, inl, inr, map, take, length, slice_get, Some, if◌then◌else◌, refl, ◌∙◌, arith}
+use Rattle.std.proofs.Common.{◌≡◌, ℕ, zero, suc, ◌+◌, ◌<◌, ◌≤◌, ◌==◌, nat_lt, Bool, true, false, List, [], ◌∷◌, ◌++◌, ◌⊎◌, inl, inr, map, take, length, get_or, slice_get, Some, cond, if◌then◌else◌, refl, ap, ◌∙◌, arith}
 use Rattle.std.proofs.lemmas.Bool.{cond-true, cond-false}
 use Rattle.std.proofs.lemmas.Bool.Decides.{nat_tests}
-use Rattle.std.proofs.lemmas.Option.{slice_get-get_or, slice_get_within}
+use Rattle.std.proofs.lemmas.List.Sums.{length-filter, sum_by-append, sum_by-cons, sum_by_more_le}
+use Rattle.std.proofs.lemmas.Option.{slice_get-get_or, slice_get_within, get_or_from_slice_get}
+use Rattle.std.specs.List.{count_by}
+use Rattle.model_types.specs.declared.records.Restraint.{Restraint}
 use Rattle.model_types.specs.declared.records.Record.{Record}
 use Rattle.model_types.specs.declared.records.Record.TheVariants as record_of
-use Rattle.model_types.specs.Kinds.{Kind, material_kind, section_kind, node_kind, element_kind, restraint_kind, case_kind, force_kind, place, Of, list, as_record, kind_of, value_of, count, key, keys, refs, AreThere, cut, before}
+use Rattle.model_types.specs.Kinds.{Kind, material_kind, section_kind, node_kind, element_kind, tee_kind, restraint_kind, case_kind, force_kind, place, Of, list, as_record, kind_of, value_of, count, key, keys, refs, AreThere, is_stop, has_stop, stop_count, cut, before}
 use Rattle.model_types.specs.Lists.{Lists, no_records, added, other_records}
 use Rattle.model_types.specs.Rules.{KeepsOwn}
 
@@ -22,26 +25,46 @@ of_kind material_kind = record { counted = λ m. refl; keyed = λ m. refl; cut_i
 of_kind section_kind = record { counted = λ m. refl; keyed = λ m. refl; cut_is = λ m j i. refl; kind_is = λ x. refl; none = refl }
 of_kind node_kind = record { counted = λ m. refl; keyed = λ m. refl; cut_is = λ m j i. refl; kind_is = λ x. refl; none = refl }
 of_kind element_kind = record { counted = λ m. refl; keyed = λ m. refl; cut_is = λ m j i. refl; kind_is = λ x. refl; none = refl }
+of_kind tee_kind = record { counted = λ m. refl; keyed = λ m. refl; cut_is = λ m j i. refl; kind_is = λ x. refl; none = refl }
 of_kind restraint_kind = record { counted = λ m. refl; keyed = λ m. refl; cut_is = λ m j i. refl; kind_is = λ x. refl; none = refl }
 of_kind case_kind = record { counted = λ m. refl; keyed = λ m. refl; cut_is = λ m j i. refl; kind_is = λ x. refl; none = refl }
 of_kind force_kind = record { counted = λ m. refl; keyed = λ m. refl; cut_is = λ m j i. refl; kind_is = λ x. refl; none = refl }
+
+-- how many stops a record is
+abbrev pub stop_count_of : Record → ℕ
+stop_count_of r = cond (has_stop r) 1 0
+
+stops_counted : (xs : List Restraint) → stop_count xs ≡ count_by (λ x. is_stop x.kind) xs
+stops_counted xs = length-filter (λ x. is_stop x.kind) xs
+
+stop_count-push : (xs : List Restraint) (r : Restraint) → stop_count (xs ++ r ∷ []) ≡ stop_count xs + cond (is_stop r.kind) 1 0
+stop_count-push xs r =
+    omega (arith, stops_counted xs, stops_counted (xs ++ r ∷ []), sum_by-append (λ (x : Restraint). cond (is_stop x.kind) 1 0) xs (r ∷ []), sum_by-cons (λ (x : Restraint). cond (is_stop x.kind) 1 0) r [])
+
+-- before a stop there is one stop less than there are with it
+pub stop_count-before : (xs : List Restraint) (i : ℕ) (r : Restraint) → slice_get xs i ≡ Some r → is_stop r.kind ≡ true → stop_count (take i xs) < stop_count xs
+stop_count-before xs i r at stop =
+    let here : is_stop (get_or xs i r).kind ≡ true = ap (λ (x : Restraint). is_stop x.kind) (get_or_from_slice_get xs i r r at) ∙ stop in
+    omega (arith, stops_counted xs, stops_counted (take i xs), sum_by_more_le (λ (x : Restraint). cond (is_stop x.kind) 1 0) xs i r (slice_get_within xs i r at), cond-true {A = ℕ} (is_stop (get_or xs i r).kind) 1 0 here)
 
 -- and what they say of a record: it is added at the end of its kind, and what its rule speaks of stands before it
 pub record OfRecord (r : Record) : Type 0 where
   pub added_is : (m : Lists) → list (added m r) (kind_of r) ≡ list m (kind_of r) ++ value_of r ∷ []
   pub others_are : (m : Lists) → other_records (added m r) ≡ other_records m
+  pub stops_are : (m : Lists) → stop_count (added m r).restraints ≡ stop_count m.restraints + stop_count_of r
   pub record_is : as_record (kind_of r) (value_of r) ≡ r
   pub known : (m : Lists) → AreThere m (refs r) → AreThere (before (added m r) (kind_of r) (length (list m (kind_of r)))) (refs r)
   pub own : (m : Lists) → KeepsOwn m r → KeepsOwn (before (added m r) (kind_of r) (length (list m (kind_of r)))) r
 
 pub of_record : (r : Record) → OfRecord r
-of_record (record_of.Material r) = record { added_is = λ m. refl; others_are = λ m. refl; record_is = refl; known = λ m k. k; own = λ m k. k }
-of_record (record_of.Section r) = record { added_is = λ m. refl; others_are = λ m. refl; record_is = refl; known = λ m k. k; own = λ m k. k }
-of_record (record_of.Node r) = record { added_is = λ m. refl; others_are = λ m. refl; record_is = refl; known = λ m k. k; own = λ m k. k }
-of_record (record_of.Element r) = record { added_is = λ m. refl; others_are = λ m. refl; record_is = refl; known = λ m k. k; own = λ m k. k }
-of_record (record_of.Restraint r) = record { added_is = λ m. refl; others_are = λ m. refl; record_is = refl; known = λ m k. k; own = λ m k. k }
-of_record (record_of.Case r) = record { added_is = λ m. refl; others_are = λ m. refl; record_is = refl; known = λ m k. k; own = λ m k. k }
-of_record (record_of.Force r) = record { added_is = λ m. refl; others_are = λ m. refl; record_is = refl; known = λ m k. k; own = λ m k. k }
+of_record (record_of.Material r) = record { added_is = λ m. refl; others_are = λ m. refl; stops_are = λ m. omega arith; record_is = refl; known = λ m k. k; own = λ m k. k }
+of_record (record_of.Section r) = record { added_is = λ m. refl; others_are = λ m. refl; stops_are = λ m. omega arith; record_is = refl; known = λ m k. k; own = λ m k. k }
+of_record (record_of.Node r) = record { added_is = λ m. refl; others_are = λ m. refl; stops_are = λ m. omega arith; record_is = refl; known = λ m k. k; own = λ m k. k }
+of_record (record_of.Element r) = record { added_is = λ m. refl; others_are = λ m. refl; stops_are = λ m. omega arith; record_is = refl; known = λ m k. k; own = λ m k. record { span = k.span; shape = k.shape } }
+of_record (record_of.Tee r) = record { added_is = λ m. refl; others_are = λ m. refl; stops_are = λ m. omega arith; record_is = refl; known = λ m k. k; own = λ m k. k }
+of_record (record_of.Restraint r) = record { added_is = λ m. refl; others_are = λ m. refl; stops_are = λ m. stop_count-push m.restraints r; record_is = refl; known = λ m k. k; own = λ m k. k }
+of_record (record_of.Case r) = record { added_is = λ m. refl; others_are = λ m. refl; stops_are = λ m. omega arith; record_is = refl; known = λ m k. k; own = λ m k. k }
+of_record (record_of.Force r) = record { added_is = λ m. refl; others_are = λ m. refl; stops_are = λ m. omega arith; record_is = refl; known = λ m k. k; own = λ m k. k }
 
 -- what holds of the list with the record, and of the others as they were, holds of all
 pub added_elim : (m : Lists) (r : Record) (P : (j : Kind) → List (Of j) → Type 0) → P (kind_of r) (list m (kind_of r) ++ value_of r ∷ []) → ((j : Kind) → P j (list m j)) → (j : Kind) → P j (list (added m r) j)
@@ -53,6 +76,8 @@ added_elim m (record_of.Node r) P new old node_kind = new
 added_elim m (record_of.Node r) P new old j = old j
 added_elim m (record_of.Element r) P new old element_kind = new
 added_elim m (record_of.Element r) P new old j = old j
+added_elim m (record_of.Tee r) P new old tee_kind = new
+added_elim m (record_of.Tee r) P new old j = old j
 added_elim m (record_of.Restraint r) P new old restraint_kind = new
 added_elim m (record_of.Restraint r) P new old j = old j
 added_elim m (record_of.Case r) P new old case_kind = new

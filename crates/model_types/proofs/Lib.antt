@@ -2,4 +2,6 @@ mod GrowthLemmas
 mod KindLemmas
 mod NameLists
 mod NumberingLemmas
+mod SpanLemmas
+mod TeeLemmas
 mod TestLemmas

@@ -1,20 +1,28 @@
 -- No number refuses a record exactly where it may be the next.
-use Rattle.std.proofs.Common.{◌≡◌, ℕ, ◌*◌, ◌<◌, ◌==◌, Bool, true, false, true≢false, ◌||◌, ◌&&◌, nat_lt, nat_le, int_le, ℤ, pos, ◌*ℤ◌, ◌<ℤ◌, IsTrue, List, [], ◌∷◌, ◌++◌, Option, Some, None, is_some, position, slice_get, Contains, nat_eq, ◌↔◌, if◌then◌else◌, refl, sym, ap, ◌∙◌, arith}
-use Rattle.std.proofs.lemmas.Bool.{le-ltb, lt-leb, leb-false, ltb-false}
-use Rattle.std.proofs.lemmas.Bool.Decides.{nat_tests}
+use Rattle.std.proofs.Common.{◌≡◌, ℕ, ◌*◌, ◌<◌, ◌==◌, Bool, true, false, true≢false, ◌||◌, ◌&&◌, nat_lt, nat_le, int_le, int_lt, int_eq, ℤ, pos, ◌*ℤ◌, ◌<ℤ◌, ◌≤ℤ◌, Result, Ok, Err, IsTrue, List, [], ◌∷◌, ◌++◌, Option, Some, None, is_some, position, slice_get, Contains, nat_eq, ◌↔◌, if◌then◌else◌, refl, sym, ap, ◌∙◌, arith}
+use Rattle.std.proofs.lemmas.Bool.{and_parts, and_from, false_from_ne_true, le-ltb, lt-leb, leb-false, ltb-false}
+use Rattle.std.proofs.lemmas.Bool.Decides.{nat_tests, Decides-int_eq}
 use Rattle.std.proofs.lemmas.Int.{ints}
 use Rattle.std.specs.Cmp.Lexicographic.{pointwise}
 use Rattle.std.specs.Option.{option_map_or}
-use Rattle.model_types.specs.declared.ranges.TheConstants.{LONGEST}
+use Rattle.model_types.specs.declared.ranges.TheConstants.{LONGEST, MOST_STOPS}
+use Rattle.flex_interval.specs.Ends.{Ends}
+use Rattle.flex_interval.specs.declared.fault.IvFault.{IvFault}
+use Rattle.angle_table.specs.HalfAngle.{sine_of}
+use Rattle.model_types.specs.declared.records.Section.{Section}
+use Rattle.model_types.specs.declared.records.Shape.{Shape}
+use Rattle.model_types.specs.declared.records.Shape.TheVariants.{Straight, Bend}
+use Rattle.model_types.specs.declared.spans.Difference.{Difference}
+use Rattle.model_types.specs.Bends.{AreParallel, are_parallel, IsNear, IsChordSquare}
 use Rattle.model_types.specs.declared.records.Node.{Node}
 use Rattle.model_types.specs.declared.records.Element.{Element}
 use Rattle.model_types.specs.declared.records.Record.{Record}
 use Rattle.model_types.specs.declared.records.Record.TheVariants as record_of
-use Rattle.model_types.specs.Kinds.{kind_of, count, is_keyed, key, keys, Ref, refs, AreThere}
+use Rattle.model_types.specs.Kinds.{kind_of, count, most, is_keyed, key, keys, Ref, refs, AreThere, has_stop, stop_count}
 use Rattle.model_types.specs.Lists.{Lists}
 use Rattle.model_types.specs.Ranges.{InForm}
-use Rattle.model_types.specs.Refusals.{Test, test, first_refusal, AllFail, lacks, has_no_length, is_too_long, is_too_many, square_between, square_length, own_tests, tests, refusal}
-use Rattle.model_types.specs.Rules.{KeepsOwn, MayBeNext, IsSpan, square_distance}
+use Rattle.model_types.specs.Refusals.{Test, test, first_refusal, AllFail, lacks, has_no_length, is_too_long, is_far, misfits_sine, is_bad_shape, is_bad_between, has_bad_shape, is_too_many, square_between, square_length, own_tests, tests, refusal}
+use Rattle.model_types.specs.Rules.{KeepsOwn, MayBeNext, IsSpan, IsShapeSpan, square_distance}
 use Rattle.model_types.proofs.NameLists.{position-Contains}
 use Rattle.model_types.proofs.GrowthLemmas.{absent_key}
 
@@ -77,6 +85,83 @@ IsSpan-from_tests nodes e a b apart near at_from at_to =
     let not_more : nat_lt (LONGEST * LONGEST) (square_distance a b) ≡ false = sym (ap (λ o. option_map_or (nat_lt (LONGEST * LONGEST)) o false) square) ∙ near in
     record { apart = positive _ not_none; near = ltb-false _ _ not_more }
 
+-- ---- the test of a shape
+
+same_or_not : (a b : ℤ) → int_eq a b ≡ true → a ≡ b
+same_or_not a b = (Decides-int_eq a b).0
+
+same_so : (a b : ℤ) → a ≡ b → int_eq a b ≡ true
+same_so a b = (Decides-int_eq a b).1
+
+not_below : (a b : ℤ) → int_lt a b ≡ false → b ≤ℤ a
+not_below a b h = grind (arith, ints)
+
+not_below_from : (a b : ℤ) → b ≤ℤ a → int_lt a b ≡ false
+not_below_from a b h = grind (arith, ints)
+
+IsNear-from_test : (corner : Difference) → is_far corner ≡ false → IsNear corner
+IsNear-from_test corner fail =
+    let last = neither _ _ fail in
+    let first = neither _ _ last.0 in
+    record { x = ltb-false _ _ first.0; y = ltb-false _ _ first.1; z = ltb-false _ _ last.1 }
+
+near_test : (corner : Difference) → IsNear corner → is_far corner ≡ false
+near_test corner near = both _ _ (both _ _ (le-ltb _ _ near.x) (le-ltb _ _ near.y)) (le-ltb _ _ near.z)
+
+pub parallel_test : (u v : Difference) → AreParallel u v → are_parallel u v ≡ true
+parallel_test u v parallel = and_from _ _ (and_from _ _ (same_so _ _ parallel.x) (same_so _ _ parallel.y)) (same_so _ _ parallel.z)
+
+pub parallel_from_test : (u v : Difference) → are_parallel u v ≡ true → AreParallel u v
+parallel_from_test u v test =
+    let last = and_parts _ _ test in
+    let first = and_parts _ _ last.0 in
+    record { x = same_or_not _ _ first.0; y = same_or_not _ _ first.1; z = same_or_not _ _ last.1 }
+
+off_line_from_test : (u v : Difference) → are_parallel u v ≡ false → ¬ (AreParallel u v)
+off_line_from_test u v fail parallel = true≢false (sym (parallel_test u v parallel) ∙ fail)
+
+off_line_test : (u v : Difference) → ¬ (AreParallel u v) → are_parallel u v ≡ false
+off_line_test u v off = false_from_ne_true (are_parallel u v) (λ test. off (parallel_from_test u v test))
+
+chord_from_test : (square : ℕ) (r : ℤ) (answer : Result Ends IvFault) → misfits_sine square r answer ≡ false → (sine : Ends) → answer ≡ Ok sine → IsChordSquare square r sine
+chord_from_test square r answer fail sine is =
+    let tests = neither _ _ (sym (ap (misfits_sine square r) is) ∙ fail) in
+    record { least = ltb-false _ _ tests.0; most = ltb-false _ _ tests.1 }
+
+chord_test : (square : ℕ) (r : ℤ) (answer : Result Ends IvFault) → ((sine : Ends) → answer ≡ Ok sine → IsChordSquare square r sine) → misfits_sine square r answer ≡ false
+chord_test square r (Ok sine) fits = let chord = fits sine refl in both _ _ (le-ltb _ _ chord.least) (le-ltb _ _ chord.most)
+chord_test square r (Err _) fits = refl
+
+IsShapeSpan-from_test : (a b : Node) (s : Section) (shape : Shape) → is_bad_shape a b s shape ≡ false → IsShapeSpan a b s shape
+IsShapeSpan-from_test a b s Straight fail = tt
+IsShapeSpan-from_test a b s (Bend r angle x y z) fail =
+    let chord = neither _ _ fail in
+    let line = neither _ _ chord.0 in
+    let near = neither _ _ line.0 in
+    record {
+      room = not_below _ _ near.0;
+      near = IsNear-from_test _ near.1;
+      off_line = off_line_from_test _ _ line.1;
+      chord = chord_from_test (square_distance a b) r (sine_of angle) chord.1;
+    }
+
+is_bad_shape-IsShapeSpan : (a b : Node) (s : Section) (shape : Shape) → IsShapeSpan a b s shape → is_bad_shape a b s shape ≡ false
+is_bad_shape-IsShapeSpan a b s Straight fits = refl
+is_bad_shape-IsShapeSpan a b s (Bend r angle x y z) fits =
+    both _ _ (both _ _ (both _ _ (not_below_from _ _ fits.room) (near_test _ fits.near)) (off_line_test _ _ fits.off_line)) (chord_test (square_distance a b) r (sine_of angle) fits.chord)
+
+-- the test fails where it fails at each two nodes and section of an element
+shape_test : (nodes : List Node) (sections : List Section) (e : Element)
+    → ((a b : Node) (s : Section) → slice_get nodes e.from.0 ≡ Some a → slice_get nodes e.to.0 ≡ Some b → slice_get sections e.section.0 ≡ Some s → IsShapeSpan a b s e.shape)
+    → has_bad_shape nodes sections e ≡ false
+shape_test nodes sections e fits = by (slice_get nodes e.from.0) (slice_get nodes e.to.0) (slice_get sections e.section.0) refl refl refl
+  where
+    by : (a b : Option Node) (s : Option Section) → slice_get nodes e.from.0 ≡ a → slice_get nodes e.to.0 ≡ b → slice_get sections e.section.0 ≡ s → is_bad_between a b s e.shape ≡ false
+    by (Some a) (Some b) (Some s) at_from at_to at_section = is_bad_shape-IsShapeSpan a b s e.shape (fits a b s at_from at_to at_section)
+    by (Some a) (Some b) None at_from at_to at_section = refl
+    by (Some a) None s at_from at_to at_section = refl
+    by None b s at_from at_to at_section = refl
+
 -- the tests of a kind decide its own rule
 own-fail : (m : Lists) (r : Record) → AllFail (own_tests m r) ↔ KeepsOwn m r
 own-fail m (record_of.Material r) = ((λ fail. tt), (λ own. tt))
@@ -86,12 +171,21 @@ own-fail m (record_of.Section r) = (
 )
 own-fail m (record_of.Node r) = ((λ fail. tt), (λ own. tt))
 own-fail m (record_of.Element r) = (
-  (λ fail a b at_from at_to. IsSpan-from_tests m.nodes r a b fail.0 fail.1.0 at_from at_to),
+  (λ fail. record {
+    span = λ a b at_from at_to. IsSpan-from_tests m.nodes r a b fail.0 fail.1.0 at_from at_to;
+    shape = λ a b s at_from at_to at_section. IsShapeSpan-from_test a b s r.shape
+        (sym (ap (λ o. is_bad_between o (slice_get m.nodes r.to.0) (slice_get m.sections r.section.0) r.shape) at_from
+        ∙ ap (λ o. is_bad_between (Some a) o (slice_get m.sections r.section.0) r.shape) at_to ∙ ap (λ o. is_bad_between (Some a) (Some b) o r.shape) at_section) ∙ fail.1.1.0);
+  }),
   (λ own. (
-    span_test (λ n. n == 0) m.nodes r (λ a b at_from at_to. not_zero _ (own a b at_from at_to).apart),
-    (span_test (nat_lt (LONGEST * LONGEST)) m.nodes r (λ a b at_from at_to. le-ltb _ _ (own a b at_from at_to).near), tt),
+    span_test (λ n. n == 0) m.nodes r (λ a b at_from at_to. not_zero _ (own.span a b at_from at_to).apart),
+    (
+      span_test (nat_lt (LONGEST * LONGEST)) m.nodes r (λ a b at_from at_to. le-ltb _ _ (own.span a b at_from at_to).near),
+      (shape_test m.nodes m.sections r own.shape, tt),
+    ),
   )),
 )
+own-fail m (record_of.Tee r) = ((λ fail. tt), (λ own. tt))
 own-fail m (record_of.Restraint r) = ((λ fail. tt), (λ own. tt))
 own-fail m (record_of.Case r) = ((λ fail. tt), (λ own. tt))
 own-fail m (record_of.Force r) = ((λ fail. tt), (λ own. tt))
@@ -111,6 +205,20 @@ new-fail true names name = ((λ fail keyed. by (position (pointwise nat_eq name)
     by (Some i) e fail = absurd (true≢false fail)
 new-fail false names name = ((λ fail keyed. absurd (true≢false (sym keyed))), (λ new. refl))
 
+-- ---- room
+
+room-fail : (m : Lists) (r : Record) → is_too_many m r ≡ false → (count m (kind_of r) < most (kind_of r)) × (IsTrue (has_stop r) → stop_count m.restraints < MOST_STOPS)
+room-fail m r fail =
+    let parts = neither (nat_le (most (kind_of r)) (count m (kind_of r))) (has_stop r && nat_le MOST_STOPS (stop_count m.restraints)) fail in
+    (leb-false _ _ parts.0, (λ stop. leb-false _ _ (sym (ap (λ b. b && nat_le MOST_STOPS (stop_count m.restraints)) stop) ∙ parts.1)))
+
+pub room_for : (m : Lists) (r : Record) → MayBeNext m r → is_too_many m r ≡ false
+room_for m r next = both _ _ (lt-leb _ _ next.room) (by (has_stop r) refl)
+  where
+    by : (stop : Bool) → has_stop r ≡ stop → (has_stop r && nat_le MOST_STOPS (stop_count m.restraints)) ≡ false
+    by true is = ap (λ b. b && nat_le MOST_STOPS (stop_count m.restraints)) is ∙ lt-leb _ _ (next.stop_room is)
+    by false is = ap (λ b. b && nat_le MOST_STOPS (stop_count m.restraints)) is
+
 -- ---- the law
 
 module _ (m : Lists) (r : Record) where
@@ -120,14 +228,15 @@ module _ (m : Lists) (r : Record) where
       record {
         keeps = record { form = form; known = (known-fail m (refs r)).0 fail.1.0; own = (own-fail m r).0 rest.0 };
         new = (new-fail (is_keyed (kind_of r)) (keys m (kind_of r)) (key r)).0 fail.0;
-        room = leb-false _ _ rest.1.0;
+        room = (room-fail m r rest.1.0).0;
+        stop_room = (room-fail m r rest.1.0).1;
       }
 
   pub refused_none : MayBeNext m r → refusal m r ≡ None
   refused_none next =
       (first_refusal-None (tests m r)).1 (
         (new-fail (is_keyed (kind_of r)) (keys m (kind_of r)) (key r)).1 next.new,
-        ((known-fail m (refs r)).1 next.keeps.known, (AllFail-more (own_tests m r) (test 14 (is_too_many m r) ∷ [])).1 ((own-fail m r).1 next.keeps.own, (lt-leb _ _ next.room, tt))),
+        ((known-fail m (refs r)).1 next.keeps.known, (AllFail-more (own_tests m r) (test 14 (is_too_many m r) ∷ [])).1 ((own-fail m r).1 next.keeps.own, (room_for m r next, tt))),
       )
 
   pub may_be_next : InForm r → refusal m r ≡ None → MayBeNext m r

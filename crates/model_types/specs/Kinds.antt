@@ -1,11 +1,14 @@
 -- The kinds of records: the lists of a model by kind, what tells the records of a kind apart, which other records they name, and how
 -- many there may be.
-use Rattle.std.specs.Prelude.{◌≡◌, ℕ, ◌<◌, ◌==◌, nat_lt, Bool, true, false, List, [], ◌∷◌, map, take, length, slice_get, Some, if◌then◌else◌}
+use Rattle.std.specs.Prelude.{◌≡◌, ℕ, ◌<◌, ◌==◌, nat_lt, Bool, true, false, List, [], ◌∷◌, map, filter, take, length, slice_get, Some, if◌then◌else◌}
 use Rattle.model_types.specs.declared.records.Material.{Material}
 use Rattle.model_types.specs.declared.records.Section.{Section}
 use Rattle.model_types.specs.declared.records.Node.{Node}
 use Rattle.model_types.specs.declared.records.Element.{Element}
+use Rattle.model_types.specs.declared.records.Tee.{Tee}
 use Rattle.model_types.specs.declared.records.Restraint.{Restraint}
+use Rattle.model_types.specs.declared.records.RestraintKind.{RestraintKind}
+use Rattle.model_types.specs.declared.records.RestraintKind.TheVariants.{Anchor, Linear, Twist, Oneway, Gap, Hanger}
 use Rattle.model_types.specs.declared.records.Case.{Case}
 use Rattle.model_types.specs.declared.records.Force.{Force}
 use Rattle.model_types.specs.declared.records.Record.{Record}
@@ -18,12 +21,13 @@ pub data Kind : Type 0 where
   section_kind : Kind
   node_kind : Kind
   element_kind : Kind
+  tee_kind : Kind
   restraint_kind : Kind
   case_kind : Kind
   force_kind : Kind
 
 abbrev pub kinds : List Kind
-kinds = material_kind ∷ section_kind ∷ node_kind ∷ element_kind ∷ restraint_kind ∷ case_kind ∷ force_kind ∷ []
+kinds = material_kind ∷ section_kind ∷ node_kind ∷ element_kind ∷ tee_kind ∷ restraint_kind ∷ case_kind ∷ force_kind ∷ []
 
 -- the place of a kind in that order
 abbrev pub place : Kind → ℕ
@@ -31,9 +35,10 @@ place material_kind = 0
 place section_kind = 1
 place node_kind = 2
 place element_kind = 3
-place restraint_kind = 4
-place case_kind = 5
-place force_kind = 6
+place tee_kind = 4
+place restraint_kind = 5
+place case_kind = 6
+place force_kind = 7
 
 -- the records of a kind
 abbrev pub Of : Kind → Type 0
@@ -41,6 +46,7 @@ Of material_kind = Material
 Of section_kind = Section
 Of node_kind = Node
 Of element_kind = Element
+Of tee_kind = Tee
 Of restraint_kind = Restraint
 Of case_kind = Case
 Of force_kind = Force
@@ -50,6 +56,7 @@ list m material_kind = m.materials
 list m section_kind = m.sections
 list m node_kind = m.nodes
 list m element_kind = m.elements
+list m tee_kind = m.tees
 list m restraint_kind = m.restraints
 list m case_kind = m.cases
 list m force_kind = m.forces
@@ -59,6 +66,7 @@ as_record material_kind r = record_of.Material r
 as_record section_kind r = record_of.Section r
 as_record node_kind r = record_of.Node r
 as_record element_kind r = record_of.Element r
+as_record tee_kind r = record_of.Tee r
 as_record restraint_kind r = record_of.Restraint r
 as_record case_kind r = record_of.Case r
 as_record force_kind r = record_of.Force r
@@ -68,6 +76,7 @@ kind_of (record_of.Material r) = material_kind
 kind_of (record_of.Section r) = section_kind
 kind_of (record_of.Node r) = node_kind
 kind_of (record_of.Element r) = element_kind
+kind_of (record_of.Tee r) = tee_kind
 kind_of (record_of.Restraint r) = restraint_kind
 kind_of (record_of.Case r) = case_kind
 kind_of (record_of.Force r) = force_kind
@@ -77,6 +86,7 @@ value_of (record_of.Material r) = r
 value_of (record_of.Section r) = r
 value_of (record_of.Node r) = r
 value_of (record_of.Element r) = r
+value_of (record_of.Tee r) = r
 value_of (record_of.Restraint r) = r
 value_of (record_of.Case r) = r
 value_of (record_of.Force r) = r
@@ -87,6 +97,7 @@ count m material_kind = length m.materials
 count m section_kind = length m.sections
 count m node_kind = length m.nodes
 count m element_kind = length m.elements
+count m tee_kind = length m.tees
 count m restraint_kind = length m.restraints
 count m case_kind = length m.cases
 count m force_kind = length m.forces
@@ -96,17 +107,42 @@ most material_kind = 64
 most section_kind = 64
 most node_kind = 2000
 most element_kind = 4000
+most tee_kind = 500
 most restraint_kind = 2000
 most case_kind = 32
 most force_kind = 4000
 
--- whether no two records of a kind may have one key, and the key: a name, or the case and the node of a force, of which several may
--- have one
+-- a stop: a one-way support or a gap, also a gap of 0
+abbrev pub is_stop : RestraintKind → Bool
+is_stop (Anchor kt kr) = false
+is_stop (Linear dx dy dz k) = false
+is_stop (Twist dx dy dz k) = false
+is_stop (Oneway dx dy dz gap k) = true
+is_stop (Gap dx dy dz gap k) = true
+is_stop (Hanger rate load) = false
+
+abbrev pub has_stop : Record → Bool
+has_stop (record_of.Material r) = false
+has_stop (record_of.Section r) = false
+has_stop (record_of.Node r) = false
+has_stop (record_of.Element r) = false
+has_stop (record_of.Tee r) = false
+has_stop (record_of.Restraint r) = is_stop r.kind
+has_stop (record_of.Case r) = false
+has_stop (record_of.Force r) = false
+
+-- how many restraints are stops
+abbrev pub stop_count : List Restraint → ℕ
+stop_count restraints = length (filter (λ r. is_stop r.kind) restraints)
+
+-- whether no two records of a kind may have one key, and the key: a name, the node of a tee, or the case and the node of a force, of
+-- which several may have one
 abbrev pub is_keyed : Kind → Bool
 is_keyed material_kind = true
 is_keyed section_kind = true
 is_keyed node_kind = true
 is_keyed element_kind = true
+is_keyed tee_kind = true
 is_keyed restraint_kind = true
 is_keyed case_kind = true
 is_keyed force_kind = false
@@ -116,6 +152,7 @@ key (record_of.Material r) = r.name
 key (record_of.Section r) = r.name
 key (record_of.Node r) = r.name
 key (record_of.Element r) = r.name
+key (record_of.Tee r) = r.node.0 ∷ []
 key (record_of.Restraint r) = r.name
 key (record_of.Case r) = r.name
 key (record_of.Force r) = r.case.0 ∷ r.node.0 ∷ []
@@ -125,6 +162,7 @@ keys m material_kind = map (λ r. r.name) m.materials
 keys m section_kind = map (λ r. r.name) m.sections
 keys m node_kind = map (λ r. r.name) m.nodes
 keys m element_kind = map (λ r. r.name) m.elements
+keys m tee_kind = map (λ r. r.node.0 ∷ []) m.tees
 keys m restraint_kind = map (λ r. r.name) m.restraints
 keys m case_kind = map (λ r. r.name) m.cases
 keys m force_kind = map (λ r. r.case.0 ∷ r.node.0 ∷ []) m.forces
@@ -143,6 +181,7 @@ refs (record_of.Material r) = []
 refs (record_of.Section r) = to material_kind r.material.0 ∷ []
 refs (record_of.Node r) = []
 refs (record_of.Element r) = to node_kind r.from.0 ∷ to node_kind r.to.0 ∷ to section_kind r.section.0 ∷ []
+refs (record_of.Tee r) = to node_kind r.node.0 ∷ to element_kind r.branch.0 ∷ to section_kind r.header.0 ∷ []
 refs (record_of.Restraint r) = to node_kind r.node.0 ∷ []
 refs (record_of.Case r) = []
 refs (record_of.Force r) = to case_kind r.case.0 ∷ to node_kind r.node.0 ∷ []
@@ -164,9 +203,10 @@ before_place m now i = record no_records {
   sections = cut 1 now i m.sections;
   nodes = cut 2 now i m.nodes;
   elements = cut 3 now i m.elements;
-  restraints = cut 4 now i m.restraints;
-  cases = cut 5 now i m.cases;
-  forces = cut 6 now i m.forces;
+  tees = cut 4 now i m.tees;
+  restraints = cut 5 now i m.restraints;
+  cases = cut 6 now i m.cases;
+  forces = cut 7 now i m.forces;
 }
 
 -- the records before number i of a kind

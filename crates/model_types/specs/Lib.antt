@@ -1,3 +1,4 @@
+pub mod Bends
 pub mod Fits
 pub mod Kinds
 pub mod Lists
@@ -6,4 +7,5 @@ pub mod Numbering
 pub mod Ranges
 pub mod Refusals
 pub mod Rules
+pub mod Tees
 pub mod Views

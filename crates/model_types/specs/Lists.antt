@@ -43,13 +43,14 @@ added m (record_of.Material r) = record m { materials = m.materials ++ r ∷ [] 
 added m (record_of.Section r) = record m { sections = m.sections ++ r ∷ [] }
 added m (record_of.Node r) = record m { nodes = m.nodes ++ r ∷ [] }
 added m (record_of.Element r) = record m { elements = m.elements ++ r ∷ [] }
+added m (record_of.Tee r) = record m { tees = m.tees ++ r ∷ [] }
 added m (record_of.Restraint r) = record m { restraints = m.restraints ++ r ∷ [] }
 added m (record_of.Case r) = record m { cases = m.cases ++ r ∷ [] }
 added m (record_of.Force r) = record m { forces = m.forces ++ r ∷ [] }
 
 -- the records of the kinds that aren't read yet
 abbrev pub other_records : Lists → Lists
-other_records m = record m { materials = []; sections = []; nodes = []; elements = []; restraints = []; cases = []; forces = [] }
+other_records m = record m { materials = []; sections = []; nodes = []; elements = []; tees = []; restraints = []; cases = []; forces = [] }
 
 -- the names of a space, in text order
 abbrev pub names_in : Lists → Space → List (List ℕ)

@@ -1,12 +1,18 @@
 -- The range of each number of a record, and what it is that a record's names and numbers are in form.
-use Rattle.std.specs.Prelude.{◌≡◌, ℕ, ℤ, pos, neg_ℤ, ◌≤ℤ◌, Option, IfSome}
+use Rattle.std.specs.Prelude.{◌≡◌, ℕ, ℤ, pos, neg_ℤ, ◌≤ℤ◌, IsTrue, Option, IfSome}
+use Rattle.angle_table.specs.HalfAngle.{is_bend_angle}
 use Rattle.model_types.specs.declared.ranges.Range.{Range}
-use Rattle.model_types.specs.declared.ranges.TheConstants.{ACCELERATION, COORDINATE, DENSITY, DIAMETER, DIRECTION_PART, EXPANSION, EXTRA_WEIGHT, LOAD, MODULUS, POISSON_RATIO, PRESSURE, STIFFNESS, TEMPERATURE_CHANGE, WALL, WALL_ALLOWANCE}
+use Rattle.model_types.specs.declared.ranges.TheConstants.{ACCELERATION, BEND_RADIUS, COORDINATE, CORNER, DENSITY, DIAMETER, DIRECTION_PART, EXPANSION, EXTRA_WEIGHT, GAP, HANGER_LOAD, LOAD, MODULUS, PAD_THICKNESS, POISSON_RATIO, PRESSURE, STIFFNESS, TEE_COEFFICIENT, TEMPERATURE_CHANGE, WALL, WALL_ALLOWANCE}
 use Rattle.model_types.specs.declared.records.Material.{Material}
 use Rattle.model_types.specs.declared.records.Section.{Section}
 use Rattle.model_types.specs.declared.records.Node.{Node}
+use Rattle.model_types.specs.declared.records.Element.{Element}
+use Rattle.model_types.specs.declared.records.Shape.{Shape}
+use Rattle.model_types.specs.declared.records.Shape.TheVariants.{Straight, Bend}
+use Rattle.model_types.specs.declared.records.TeeKind.{TeeKind}
+use Rattle.model_types.specs.declared.records.TeeKind.TheVariants.{Unreinforced, Pad, Coefficient}
 use Rattle.model_types.specs.declared.records.RestraintKind.{RestraintKind}
-use Rattle.model_types.specs.declared.records.RestraintKind.TheVariants.{Anchor, Linear, Twist}
+use Rattle.model_types.specs.declared.records.RestraintKind.TheVariants.{Anchor, Linear, Twist, Oneway, Gap, Hanger}
 use Rattle.model_types.specs.declared.records.Case.{Case}
 use Rattle.model_types.specs.declared.records.Force.{Force}
 use Rattle.model_types.specs.declared.records.Record.{Record}
@@ -46,6 +52,28 @@ pub record NodeInForm (n : Node) : Type 0 where
   pub y : IsIn COORDINATE n.y
   pub z : IsIn COORDINATE n.z
 
+-- the radius, the angle and the corner of a bend
+pub record BendInForm (r : ℤ) (angle : ℕ) (px py pz : ℤ) : Type 0 where
+  pub radius : IsIn BEND_RADIUS r
+  pub listed : IsTrue (is_bend_angle angle)
+  pub x : IsIn CORNER px
+  pub y : IsIn CORNER py
+  pub z : IsIn CORNER pz
+
+abbrev pub ShapeInForm : Shape → Type 0
+ShapeInForm Straight = Unit {0}
+ShapeInForm (Bend r angle x y z) = BendInForm r angle x y z
+
+pub record ElementInForm (e : Element) : Type 0 where
+  pub name : IsName e.name
+  pub shape : ShapeInForm e.shape
+
+-- the thickness of a tee's pad, or its coefficient
+abbrev pub TeeInForm : TeeKind → Type 0
+TeeInForm Unreinforced = Unit {0}
+TeeInForm (Pad thickness) = IsIn PAD_THICKNESS thickness
+TeeInForm (Coefficient c) = IsIn TEE_COEFFICIENT c
+
 -- a direction: three parts, not all 0
 pub record IsDirection (x y z : ℤ) : Type 0 where
   pub x_part : IsIn DIRECTION_PART x
@@ -61,6 +89,9 @@ abbrev pub KindInForm : RestraintKind → Type 0
 KindInForm (Anchor kt kr) = IsStiffness kt × IsStiffness kr
 KindInForm (Linear dx dy dz k) = IsDirection dx dy dz × IsStiffness k
 KindInForm (Twist dx dy dz k) = IsDirection dx dy dz × IsStiffness k
+KindInForm (Oneway dx dy dz gap k) = IsDirection dx dy dz × IsIn GAP gap × IsStiffness k
+KindInForm (Gap dx dy dz gap k) = IsDirection dx dy dz × IsIn GAP gap × IsStiffness k
+KindInForm (Hanger rate load) = IsIn STIFFNESS rate × IsIn HANGER_LOAD load
 
 pub record CaseInForm (c : Case) : Type 0 where
   pub name : IsName c.name
@@ -83,7 +114,8 @@ abbrev pub InForm : Record → Type 0
 InForm (record_of.Material r) = MaterialInForm r
 InForm (record_of.Section r) = SectionInForm r
 InForm (record_of.Node r) = NodeInForm r
-InForm (record_of.Element r) = IsName r.name
+InForm (record_of.Element r) = ElementInForm r
+InForm (record_of.Tee r) = TeeInForm r.kind
 InForm (record_of.Restraint r) = IsName r.name × KindInForm r.kind
 InForm (record_of.Case r) = CaseInForm r
 InForm (record_of.Force r) = ForceInForm r

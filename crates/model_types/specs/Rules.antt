@@ -1,13 +1,21 @@
 -- The rules that every model keeps.
-use Rattle.std.specs.Prelude.{◌≡◌, ◌≢◌, ℕ, ℤ, ◌+◌, ◌*◌, ◌<◌, ◌≤◌, pos, ◌-ℤ◌, ◌*ℤ◌, ◌<ℤ◌, unsigned_abs, IsTrue, length, slice_get, Some, All, AllPairs, Contains}
-use Rattle.model_types.specs.declared.ranges.TheConstants.{LONGEST}
+use Rattle.std.specs.Prelude.{◌≡◌, ◌≢◌, ℕ, ℤ, ◌+◌, ◌*◌, ◌<◌, ◌≤◌, pos, ◌-ℤ◌, ◌*ℤ◌, ◌<ℤ◌, ◌≤ℤ◌, unsigned_abs, IsTrue, length, slice_get, Some, Ok, All, AllPairs, Contains}
+use Rattle.flex_interval.specs.Ends.{Ends}
+use Rattle.angle_table.specs.HalfAngle.{sine_of}
+use Rattle.model_types.specs.declared.ranges.TheConstants.{LONGEST, MOST_STOPS}
 use Rattle.model_types.specs.declared.records.Section.{Section}
 use Rattle.model_types.specs.declared.records.Node.{Node}
+use Rattle.model_types.specs.declared.records.Element.{Element}
+use Rattle.model_types.specs.declared.records.Shape.{Shape}
+use Rattle.model_types.specs.declared.records.Shape.TheVariants.{Straight, Bend}
+use Rattle.model_types.specs.declared.spans.Difference.{Difference}
 use Rattle.model_types.specs.declared.records.Record.{Record}
 use Rattle.model_types.specs.declared.records.Record.TheVariants as record_of
-use Rattle.model_types.specs.Kinds.{Kind, material_kind, section_kind, node_kind, element_kind, restraint_kind, case_kind, force_kind, Of, list, as_record, kind_of, count, most, is_keyed, key, keys, refs, AreThere, before}
+use Rattle.model_types.specs.Bends.{difference_between, difference_to, AreParallel, IsNear, IsChordSquare}
+use Rattle.model_types.specs.Kinds.{Kind, material_kind, section_kind, node_kind, element_kind, tee_kind, restraint_kind, case_kind, force_kind, Of, list, as_record, kind_of, count, most, is_keyed, key, keys, refs, AreThere, has_stop, stop_count, before}
 use Rattle.model_types.specs.Lists.{Lists, no_records, other_records}
 use Rattle.model_types.specs.Ranges.{InForm}
+use Rattle.model_types.specs.Tees.{IsTee}
 
 -- the square of the difference of two coordinates
 abbrev pub square_difference : ℤ → ℤ → ℕ
@@ -22,6 +30,24 @@ pub record IsSpan (from to : Node) : Type 0 where
   pub apart : 0 < square_distance from to
   pub near : square_distance from to ≤ LONGEST * LONGEST
 
+-- a bend may run from one of the nodes to the other: its radius leaves room for the pipe, its corner isn't far and lies off the line
+-- through the nodes, and they are as far apart as its radius and its angle have it
+pub record IsBendSpan (from to : Node) (s : Section) (r : ℤ) (angle : ℕ) (corner : Difference) : Type 0 where
+  pub room : s.d ≤ℤ (pos 2 *ℤ r)
+  pub near : IsNear corner
+  pub off_line : ¬ (AreParallel (difference_between from to) corner)
+  pub chord : (sine : Ends) → sine_of angle ≡ Ok sine → IsChordSquare (square_distance from to) r sine
+
+-- what a shape wants of the nodes and the section
+abbrev pub IsShapeSpan : Node → Node → Section → Shape → Type 0
+IsShapeSpan from to s Straight = Unit {0}
+IsShapeSpan from to s (Bend r angle x y z) = IsBendSpan from to s r angle (difference_to from x y z)
+
+-- an element may run between its nodes
+pub record HasSpan (m : Lists) (e : Element) : Type 0 where
+  pub span : (a b : Node) → slice_get m.nodes e.from.0 ≡ Some a → slice_get m.nodes e.to.0 ≡ Some b → IsSpan a b
+  pub shape : (a b : Node) (s : Section) → slice_get m.nodes e.from.0 ≡ Some a → slice_get m.nodes e.to.0 ≡ Some b → slice_get m.sections e.section.0 ≡ Some s → IsShapeSpan a b s e.shape
+
 -- a section: with a bore, and a wall that its allowance leaves something of
 pub record HasSoundWall (s : Section) : Type 0 where
   pub bore : (pos 2 *ℤ s.t) <ℤ s.d
@@ -32,7 +58,8 @@ abbrev pub KeepsOwn : Lists → Record → Type 0
 KeepsOwn m (record_of.Material r) = Unit {0}
 KeepsOwn m (record_of.Section r) = HasSoundWall r
 KeepsOwn m (record_of.Node r) = Unit {0}
-KeepsOwn m (record_of.Element r) = (a b : Node) → slice_get m.nodes r.from.0 ≡ Some a → slice_get m.nodes r.to.0 ≡ Some b → IsSpan a b
+KeepsOwn m (record_of.Element r) = HasSpan m r
+KeepsOwn m (record_of.Tee r) = Unit {0}
 KeepsOwn m (record_of.Restraint r) = Unit {0}
 KeepsOwn m (record_of.Case r) = Unit {0}
 KeepsOwn m (record_of.Force r) = Unit {0}
@@ -43,12 +70,13 @@ pub record Keeps (m : Lists) (r : Record) : Type 0 where
   pub known : AreThere m (refs r)
   pub own : KeepsOwn m r
 
--- each record keeps its rule among those before it, no two of a kind have one key, no kind has too many, and there is none of a kind
--- that isn't read yet
+-- each record keeps its rule among those before it, no two of a kind have one key, no kind has too many, nor are there too
+-- many stops, and there is none of a kind that isn't read yet
 pub record KeepsRules (m : Lists) : Type 0 where
   pub records : (k : Kind) (i : ℕ) (x : Of k) → slice_get (list m k) i ≡ Some x → Keeps (before m k i) (as_record k x)
   pub distinct : (k : Kind) → IsTrue (is_keyed k) → AllPairs (λ a b. a ≢ b) (keys m k)
   pub limits : (k : Kind) → count m k ≤ most k
+  pub stops : stop_count m.restraints ≤ MOST_STOPS
   pub other_kinds : other_records m ≡ no_records
 
 -- a record may be the next: it keeps its rule, its key is new, and there is room for it
@@ -56,6 +84,7 @@ pub record MayBeNext (m : Lists) (r : Record) : Type 0 where
   pub keeps : Keeps m r
   pub new : IsTrue (is_keyed (kind_of r)) → ¬ (Contains (keys m (kind_of r)) (key r))
   pub room : count m (kind_of r) < most (kind_of r)
+  pub stop_room : IsTrue (has_stop r) → stop_count m.restraints < MOST_STOPS
 
 -- each record of a kind keeps its rule among all
 pub record AllKeep (m : Lists) : Type 0 where
@@ -63,6 +92,7 @@ pub record AllKeep (m : Lists) : Type 0 where
   pub sections : All (λ r. Keeps m (record_of.Section r)) m.sections
   pub nodes : All (λ r. Keeps m (record_of.Node r)) m.nodes
   pub elements : All (λ r. Keeps m (record_of.Element r)) m.elements
+  pub tees : All (λ r. Keeps m (record_of.Tee r)) m.tees
   pub restraints : All (λ r. Keeps m (record_of.Restraint r)) m.restraints
   pub cases : All (λ r. Keeps m (record_of.Case r)) m.cases
   pub forces : All (λ r. Keeps m (record_of.Force r)) m.forces
@@ -73,13 +103,16 @@ pub record KeepsLimits (m : Lists) : Type 0 where
   pub sections : length m.sections ≤ most section_kind
   pub nodes : length m.nodes ≤ most node_kind
   pub elements : length m.elements ≤ most element_kind
+  pub tees : length m.tees ≤ most tee_kind
   pub restraints : length m.restraints ≤ most restraint_kind
   pub cases : length m.cases ≤ most case_kind
   pub forces : length m.forces ≤ most force_kind
 
--- a model keeps the rules and has a node, and so each record keeps its rule among all, and no list is too long
+-- a model keeps the rules, has a node, and the elements at the node of each tee make it; and so each record keeps its rule among all,
+-- and no list is too long
 pub record IsModel (m : Lists) : Type 0 where
   pub rules : KeepsRules m
   pub some_node : 0 < length m.nodes
+  pub tees_made : All (IsTee m) m.tees
   pub kept : AllKeep m
   pub few : KeepsLimits m

@@ -4,6 +4,7 @@ ghost use Rattle.model_types.specs.Lists.{names_in, record_number, no_records, a
 ghost use Rattle.model_types.specs.Ranges.{InForm};
 ghost use Rattle.model_types.specs.Rules.{KeepsRules, MayBeNext, IsModel};
 ghost use Rattle.model_types.specs.Refusals as refused;
+ghost use Rattle.model_types.specs.Tees.{broken_tee};
 
 use crate::NoMemory;
 use crate::answers::Bounds;
@@ -59,10 +60,12 @@ impl Draft {
     }
 
     /// Adds a record, the next in the text, or refuses it by the first rule that it breaks. A name that isn't there is handed in
-    /// as the number 4294967295. For a bend `sine` encloses the sine of half its angle; for any other record it isn't looked at.
+    /// as the number 4294967295. For a bend `sine` has the ends of the sine of half its angle, in units of 2^-56; for any other record it
+    /// isn't looked at.
     /// Any fault leaves the draft as it was.
-    pub fn add(&mut self, candidate: Record, _sine: Bounds) -> Result<(), AddFault>
-        requires { InForm candidate }
+    pub fn add(&mut self, candidate: Record, sine: Bounds) -> Result<(), AddFault>
+        requires form { InForm candidate }
+        requires sine { refused.IsSineFor candidate sine }
 
         ensures ok { OnOk result (self.new ≡ added self.old candidate) }
         ensures accepted { OnOk result (refused.refusal self.old candidate ≡ None) }
@@ -75,30 +78,44 @@ impl Draft {
         ensures next { OnOk result (MayBeNext self.old candidate) }
         ensures needed { (number : ℕ) → result ≡ Err (AddFault.Refused number) → ¬ (KeepsRules (added self.old candidate)) }
     {
-        if let Some(number) = self.lists.refusal(&candidate) {
+        if let Some(number) = self.lists.refusal(&candidate, sine) {
             return Err(AddFault::Refused(number));
         }
         self.lists.append(candidate)?;
         Ok(())
     }
 
-    /// The model of the records.
+    /// The model of the records, unless there is no node, or the elements at the node of some tee don't make it: the fault has the
+    /// number of the first such tee.
     pub fn finish(self) -> Result<Model, WholeFault>
         ensures model { IfOk result (λ model. model ≡ self) }
         ensures rules { OnOk result (IsModel self) }
-        ensures missing { IsErr result ↔ (self.nodes ≡ []) }
-        ensures fault { IfErr result (λ fault. fault ≡ WholeFault.Missing) }
+        ensures made { OnOk result (broken_tee self ≡ None) }
+        ensures missing { (result ≡ Err WholeFault.Missing) ↔ (self.nodes ≡ []) }
+        ensures tee { (number : ℕ) → (result ≡ Err (WholeFault.Tee number)) ↔ ((self.nodes ≢ []) × (broken_tee self ≡ Some number)) }
     {
         if self.count(Space::Node) == 0 {
             drop(self);
             return Err(WholeFault::Missing);
         }
+        if let Some(number) = self.broken_tee() {
+            drop(self);
+            return Err(WholeFault::Tee(number));
+        }
         Ok(self.into_model())
     }
 
-    // The model of records among which there is a node.
+    // The number of the first tee that the elements at its node don't make.
+    fn broken_tee(&self) -> Option<u32>
+        ensures { result ≡ broken_tee self.now }
+    {
+        self.lists.broken_tee()
+    }
+
+    // The model of records among which there is a node, and whose tees are made.
     fn into_model(self) -> Model
-        requires { self.nodes ≢ [] }
+        requires some { self.nodes ≢ [] }
+        requires tees { broken_tee self ≡ None }
         ensures model { result ≡ self }
         ensures rules { IsModel self }
     {

@@ -12,14 +12,16 @@ pub mod models;
 pub mod ranges;
 mod record_lists;
 pub mod records;
+mod spans;
 mod tables;
+mod tees;
 
 pub use answers::{Bounds, CaseAnswer, Cause, CheckAnswer, StationAnswer};
 pub use drafts::Draft;
 pub use faults::{AddFault, WholeFault};
 pub use ids::{CaseId, CheckId, ElementId, MaterialId, NodeId, RestraintId, SectionId, Space};
 pub use lists::Sequence;
-pub use models::{Model, records_follow};
+pub use models::{Model, records_follow, tees_are_judged};
 pub use ranges::Range;
 pub use records::{
     Case, Check, CheckKind, Element, Force, Material, Move, Node, Pressure, Record, Restraint,

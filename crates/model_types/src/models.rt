@@ -3,6 +3,7 @@ ghost use Rattle.std.specs.Prelude.{◌≡◌, ◌<◌, length, slice_get, Some}
 ghost use Rattle.model_types.specs.Rules.{IsModel, Keeps};
 ghost use Rattle.model_types.specs.declared.records.Record.TheVariants as record_of;
 ghost use Rattle.model_types.specs.Refusals.{RecordsFollow};
+ghost use Rattle.model_types.specs.Tees.{TeesAreJudged};
 
 use crate::ids::{CaseId, ElementId, MaterialId, NodeId, RestraintId, SectionId};
 use crate::records::{
@@ -200,4 +201,9 @@ impl Model {
 /// The law of reading in order: a model's records, taken by kind, are each refused by no number against those before them.
 pub fn records_follow()
     ensures { RecordsFollow }
+{}
+
+/// The law of tees: the test finds no broken tee exactly where the elements at the node of each tee make it.
+pub fn tees_are_judged()
+    ensures { TeesAreJudged }
 {}

@@ -61,6 +61,30 @@ pub const COORDINATE: Range = Range {
     most: 10_000_000_000,
 };
 
+/// Radius of a bend's middle line, in micrometres.
+pub const BEND_RADIUS: Range = Range {
+    least: 1000,
+    most: 15_000_000,
+};
+
+/// Coordinates of a bend's corner, in micrometres: all that have at most 18 digits.
+pub const CORNER: Range = Range {
+    least: -999_999_999_999_999_999,
+    most: 999_999_999_999_999_999,
+};
+
+/// Thickness of a tee's pad, in micrometres.
+pub const PAD_THICKNESS: Range = Range {
+    least: 1,
+    most: 200_000,
+};
+
+/// Coefficient of a tee, in thousandths.
+pub const TEE_COEFFICIENT: Range = Range {
+    least: 100,
+    most: 100_000,
+};
+
 /// Stiffness of a restraint, in N/m or N m/rad.
 pub const STIFFNESS: Range = Range {
     least: 1,
@@ -71,6 +95,18 @@ pub const STIFFNESS: Range = Range {
 pub const DIRECTION_PART: Range = Range {
     least: -1_000_000,
     most: 1_000_000,
+};
+
+/// The gap of a one-way support or of a gap, in micrometres.
+pub const GAP: Range = Range {
+    least: 0,
+    most: 1_000_000,
+};
+
+/// Load of a hanger upwards, in mN.
+pub const HANGER_LOAD: Range = Range {
+    least: 0,
+    most: 1_000_000_000,
 };
 
 /// Acceleration, in thousandths of standard gravity.
@@ -97,5 +133,11 @@ pub const LOAD: Range = Range {
     most: 1_000_000_000_000,
 };
 
+/// How many restraints may be one-way supports or gaps.
+pub const MOST_STOPS: usize = 1000;
+
 /// The most that the ends of an element may lie apart, in micrometres.
 pub const LONGEST: u128 = 30_000_000;
+
+/// The most that a coordinate of a bend's corner may differ from that of the bend's first node, in micrometres.
+pub const FARTHEST_CORNER: u64 = 100_000_000;

@@ -1,20 +1,25 @@
 //! The records of each kind, one list a kind, and the tests of one more record.
-ghost use Rattle.std.specs.Prelude.{◌≡◌, ◌*◌, ◌≤◌, ◌^◌, pos, ◌*ℤ◌, int_le, length, [], ◌∷◌, false, OnOk, OnErr, IfOk, All};
+ghost use Rattle.std.specs.Prelude.{◌≡◌, ◌*◌, ◌≤◌, ◌^◌, pos, ◌*ℤ◌, int_le, length, [], ◌∷◌, false, map, position, is_some, nat_eq, ◌==◌, OnOk, OnErr, IfOk, All};
+ghost use Rattle.std.specs.Cmp.Lexicographic.{pointwise};
 ghost use Rattle.model_types.specs.Lists.{names_in, record_number, no_records, added};
-ghost use Rattle.model_types.specs.Kinds.{kind_of, count, most, refs};
+ghost use Rattle.model_types.specs.Kinds.{kind_of, count, most, refs, has_stop, stop_count};
 ghost use Rattle.model_types.specs.Ranges.{InForm, NodeInForm, SectionInForm, IsIn};
-ghost use Rattle.model_types.specs.Rules.{IsModel, square_distance as square_between, square_difference as square_from};
+ghost use Rattle.model_types.specs.Rules.{IsModel};
 ghost use Rattle.model_types.specs.Refusals as refused;
+ghost use Rattle.model_types.specs.Tees.{broken_tee};
 
 use crate::NoMemory;
+use crate::answers::Bounds;
 use crate::ids::Space;
 use crate::models::Model;
-use crate::ranges::{COORDINATE, LONGEST, WALL};
+use crate::ranges::{MOST_STOPS, WALL};
 use crate::records::{
     Case, Check, Element, Force, Material, Move, Node, Pressure, Record, Restraint, Section, Tee,
     Temp,
 };
+use crate::spans::element_refusal;
 use crate::tables::Table;
+use crate::tees::first_broken;
 use std::alloc::{AllocError, Global};
 use text_words::Name;
 
@@ -143,15 +148,17 @@ impl RecordLists {
             Record::Section(r) => self.sections.push(r),
             Record::Node(r) => self.nodes.push(r),
             Record::Element(r) => self.elements.push(r),
+            Record::Tee(r) => Ok(self.tees.push(r)?),
             Record::Restraint(r) => self.restraints.push(r),
             Record::Case(r) => self.cases.push(r),
             Record::Force(r) => Ok(self.forces.push(r)?),
         }
     }
 
-    /// The number that refuses the record: that of the first test that holds.
-    pub(crate) fn refusal(&self, candidate: &Record) -> Option<u8>
+    /// The number that refuses the record: that of the first test that holds. For a bend `sine` encloses the sine of half its angle.
+    pub(crate) fn refusal(&self, candidate: &Record, sine: Bounds) -> Option<u8>
         requires form { InForm candidate.now }
+        requires sine { refused.IsSineFor candidate.now sine }
         requires nodes { All NodeInForm self.now.nodes }
         ensures { result ≡ refused.refusal self.now candidate.now }
     {
@@ -161,13 +168,26 @@ impl RecordLists {
         if self.lacks(candidate) {
             return Some(9);
         }
-        if let Some(number) = self.own_refusal(candidate) {
+        if let Some(number) = self.own_refusal(candidate, sine) {
             return Some(number);
         }
         if self.is_too_many(candidate) {
             return Some(14);
         }
         None
+    }
+
+    /// The number of the first tee that the elements at its node don't make.
+    pub(crate) fn broken_tee(&self) -> Option<u32>
+        requires nodes { All NodeInForm self.now.nodes }
+        requires few { length self.now.tees ≤ 500 }
+        ensures { result ≡ broken_tee self.now }
+    {
+        first_broken(
+            self.nodes.as_slice(),
+            self.elements.as_slice(),
+            self.tees.as_slice(),
+        )
     }
 
     // Whether a record of its kind has its key.
@@ -179,6 +199,7 @@ impl RecordLists {
             Record::Section(r) => self.look_up(Space::Section, &r.name).is_some(),
             Record::Node(r) => self.look_up(Space::Node, &r.name).is_some(),
             Record::Element(r) => self.look_up(Space::Element, &r.name).is_some(),
+            Record::Tee(r) => has_tee(self.tees.as_slice(), r.node.0),
             Record::Restraint(r) => self.look_up(Space::Restraint, &r.name).is_some(),
             Record::Case(r) => self.look_up(Space::Case, &r.name).is_some(),
             Record::Force(_) => false,
@@ -197,6 +218,11 @@ impl RecordLists {
                     || self.nodes.len() <= r.to.0 as usize
                     || self.sections.len() <= r.section.0 as usize
             }
+            Record::Tee(r) => {
+                self.nodes.len() <= r.node.0 as usize
+                    || self.elements.len() <= r.branch.0 as usize
+                    || self.sections.len() <= r.header.0 as usize
+            }
             Record::Restraint(r) => self.nodes.len() <= r.node.0 as usize,
             Record::Force(r) => {
                 self.cases.len() <= r.case.0 as usize || self.nodes.len() <= r.node.0 as usize
@@ -205,24 +231,28 @@ impl RecordLists {
     }
 
     // The first test of its own kind that refuses the record.
-    fn own_refusal(&self, candidate: &Record) -> Option<u8>
+    fn own_refusal(&self, candidate: &Record, sine: Bounds) -> Option<u8>
         requires form { InForm candidate.now }
+        requires sine { refused.IsSineFor candidate.now sine }
         requires nodes { All NodeInForm self.now.nodes }
         ensures { result ≡ refused.first_refusal (refused.own_tests self.now candidate.now) }
     {
         match candidate {
             Record::Material(_) | Record::Node(_) | Record::Restraint(_) => None,
-            Record::Case(_) | Record::Force(_) => None,
+            Record::Tee(_) | Record::Case(_) | Record::Force(_) => None,
             Record::Section(r) => section_refusal(r),
-            Record::Element(r) => element_refusal(self.nodes.as_slice(), r),
+            Record::Element(r) => {
+                element_refusal(self.nodes.as_slice(), self.sections.as_slice(), r, sine)
+            }
         }
     }
 
-    // Whether there are as many records of its kind as there may be.
+    // Whether there are as many records of its kind as there may be, or as many stops where it is one.
     fn is_too_many(&self, candidate: &Record) -> bool
         ensures { result ≡ refused.is_too_many self.now candidate.now }
     {
         self.count(candidate) >= most(candidate)
+            || (is_stop(candidate) && stop_count(self.restraints.as_slice()) >= MOST_STOPS)
     }
 
     // How many records there are of its kind.
@@ -234,6 +264,7 @@ impl RecordLists {
             Record::Section(_) => self.sections.len(),
             Record::Node(_) => self.nodes.len(),
             Record::Element(_) => self.elements.len(),
+            Record::Tee(_) => self.tees.len(),
             Record::Restraint(_) => self.restraints.len(),
             Record::Case(_) => self.cases.len(),
             Record::Force(_) => self.forces.len(),
@@ -250,10 +281,44 @@ fn most(candidate: &Record) -> usize
         Record::Section(_) => 64,
         Record::Node(_) => 2000,
         Record::Element(_) => 4000,
+        Record::Tee(_) => 500,
         Record::Restraint(_) => 2000,
         Record::Case(_) => 32,
         Record::Force(_) => 4000,
     }
+}
+
+// Whether a record is a one-way support or a gap.
+fn is_stop(candidate: &Record) -> bool
+    ensures { result ≡ has_stop candidate.now }
+{
+    match candidate {
+        Record::Restraint(r) => r.kind.is_stop(),
+        Record::Material(_) | Record::Section(_) | Record::Node(_) => false,
+        Record::Element(_) | Record::Tee(_) => false,
+        Record::Case(_) | Record::Force(_) => false,
+    }
+}
+
+// Whether a node has a tee.
+fn has_tee(tees: &[Tee], node: u32) -> bool
+    ensures { result ≡ is_some (position (pointwise nat_eq (node ∷ [])) (map (λ t. t.node.0 ∷ []) tees.now)) }
+{
+    tee_at(tees, node).is_some()
+}
+
+// The first tee at a node.
+fn tee_at(tees: &[Tee], node: u32) -> Option<usize>
+    ensures { result ≡ position (λ t. t.node.0 == node) tees.now }
+{
+    tees.iter().position(|tee| tee.node.0 == node)
+}
+
+// How many restraints are one-way supports or gaps.
+fn stop_count(restraints: &[Restraint]) -> usize
+    ensures { result ≡ stop_count restraints.now }
+{
+    restraints.iter().filter(|r| r.kind.is_stop()).count()
 }
 
 // The test of a section: its wall fills its bore, or its allowance the wall.
@@ -267,57 +332,10 @@ fn section_refusal(section: &Section) -> Option<u8>
     None
 }
 
-// The tests of an element: its nodes lie at one place, or too far apart.
-fn element_refusal(nodes: &[Node], element: &Element) -> Option<u8>
-    requires { All NodeInForm nodes.now }
-    ensures { result ≡ refused.first_refusal (refused.test 10 (refused.has_no_length nodes.now element.now) ∷ refused.test 11 (refused.is_too_long nodes.now element.now) ∷ []) }
-{
-    let square = square_length(nodes, element);
-    if square.is_some_and(|square| square == 0) {
-        return Some(10);
-    }
-    if square.is_some_and(|square| square > LONGEST * LONGEST) {
-        return Some(11);
-    }
-    None
-}
-
-// The square of the distance between an element's nodes, in square micrometres, where they are there.
-fn square_length(nodes: &[Node], element: &Element) -> Option<u128>
-    requires { All NodeInForm nodes.now }
-    ensures { result ≡ refused.square_length nodes.now element.now }
-{
-    let from = nodes.get(element.from.0 as usize)?;
-    let to = nodes.get(element.to.0 as usize)?;
-    Some(square_distance(from, to))
-}
-
 // Whether a wall fills the bore of a pipe.
 fn fills_bore(d: i64, t: i64) -> bool
     requires { IsIn WALL t }
     ensures { result ≡ int_le d (pos 2 *ℤ t) }
 {
     d <= 2 * t
-}
-
-// The square of the distance between two nodes, in square micrometres.
-fn square_distance(from: &Node, to: &Node) -> u128
-    requires from_form { NodeInForm from.now }
-    requires to_form { NodeInForm to.now }
-    ensures { result ≡ square_between from.now to.now }
-{
-    square_difference(from.x, to.x)
-        + square_difference(from.y, to.y)
-        + square_difference(from.z, to.z)
-}
-
-// The square of the difference of two coordinates.
-fn square_difference(from: i64, to: i64) -> u128
-    requires from_range { IsIn COORDINATE from }
-    requires to_range { IsIn COORDINATE to }
-    ensures square { result ≡ square_from from to }
-    ensures small { result ≤ (2 * 10 ^ 10) ^ 2 }
-{
-    let difference = to.abs_diff(from) as u128;
-    difference * difference
 }

@@ -1,5 +1,6 @@
 //! The records of a model. Lengths are in micrometres, and `None` is a default that the text leaves as `-`.
 ghost use Rattle.std.specs.Prelude.{◌≡◌, ◌≤◌};
+ghost use Rattle.model_types.specs.Kinds.{is_stop};
 ghost use Rattle.model_types.specs.MemberCounts.{restraint_member_count, shape_member_count};
 
 use crate::ids::{CaseId, CheckId, ElementId, MaterialId, NodeId, RestraintId, SectionId};
@@ -63,6 +64,18 @@ pub struct Element {
 pub enum Shape {
     /// A straight pipe.
     Straight,
+    /// A circular bend.
+    Bend {
+        /// Radius of its middle line, 1,000 to 15,000,000 micrometres.
+        r: i64,
+        /// Its angle in thousandths of a degree: 22,500, 30,000, 45,000, 60,000, 90,000 or 180,000.
+        angle: u32,
+        /// A point on the outer side of its chord, in micrometres: usually the corner where the tangents at its ends meet. It has at
+        /// most 18 digits in each coordinate.
+        px: i64,
+        py: i64,
+        pz: i64,
+    },
 }
 
 impl Shape {
@@ -73,6 +86,7 @@ impl Shape {
     {
         match self {
             Shape::Straight => 8,
+            Shape::Bend { .. } => 6,
         }
     }
 }
@@ -128,6 +142,29 @@ pub enum RestraintKind {
         dz: i64,
         k: Option<i64>,
     },
+    /// The translation along a direction, one way: motion is stopped where it has come GAP that way, 0 to 1,000,000 micrometres; K as
+    /// for `Linear`.
+    Oneway {
+        dx: i64,
+        dy: i64,
+        dz: i64,
+        gap: i64,
+        k: Option<i64>,
+    },
+    /// The translation along a direction, both ways: as `Oneway` on either side. With a gap of 0 it is the same as `Linear`.
+    Gap {
+        dx: i64,
+        dy: i64,
+        dz: i64,
+        gap: i64,
+        k: Option<i64>,
+    },
+    /// A spring along z: RATE in N/m, 1 to 2,000,000,000,000, and LOAD in mN upwards, 0 to 1,000,000,000, which acts in the cases
+    /// that say so.
+    Hanger {
+        rate: i64,
+        load: i64,
+    },
 }
 
 impl RestraintKind {
@@ -138,6 +175,19 @@ impl RestraintKind {
         match self {
             RestraintKind::Anchor { .. } => 6,
             RestraintKind::Linear { .. } | RestraintKind::Twist { .. } => 1,
+            RestraintKind::Oneway { .. } | RestraintKind::Hanger { .. } => 1,
+            RestraintKind::Gap { gap, .. } => if *gap == 0 { 1 } else { 2 },
+        }
+    }
+
+    /// Whether a restraint of this kind is a stop: a one-way support or a gap, also a gap of 0.
+    pub fn is_stop(&self) -> bool
+        ensures { result ≡ is_stop self.now }
+    {
+        match self {
+            RestraintKind::Oneway { .. } | RestraintKind::Gap { .. } => true,
+            RestraintKind::Anchor { .. } | RestraintKind::Hanger { .. } => false,
+            RestraintKind::Linear { .. } | RestraintKind::Twist { .. } => false,
         }
     }
 }
@@ -240,6 +290,7 @@ pub enum Record {
     Section(Section),
     Node(Node),
     Element(Element),
+    Tee(Tee),
     Restraint(Restraint),
     Case(Case),
     Force(Force),

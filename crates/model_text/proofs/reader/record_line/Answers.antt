@@ -12,17 +12,17 @@ pub returns-then-made-number : goal.returns-then-made-number
 returns-then-made-number c =
     let behind = lines_left (option_copied c.cut_line.result.1) in
     let next = ap (λ o. lines_left (option_copied o)) c.in-Some.is ∙ c.cut_line.ensures.lines in
-    IsLineOf-next c.args.text.now _ (kind_made c.args.form) c.loop-rest.line c.loop-rest.made c.args.number c.loop-rest.invariant c.requires c.cut_line.result.0.now behind next c.if-made-number.true
+    IsLineOf-next c.args.text.now _ (kind_made c.args.form) c.loop-rest.line c.loop-rest.made c.args.number c.loop-rest.invariant c.requires.short c.requires.there c.cut_line.result.0.now behind next c.if-made-number.true
     (sym (ap one_if c.makes.ensures) ∙ ap one_if c.if-makes.true)
 
 pub overflow_add-line : goal.overflow_add-line
-overflow_add-line c = omega (arith, line_small c.args.text.now _ (kind_made c.args.form) c.loop-rest.line c.loop-rest.made c.args.number c.loop-rest.invariant c.requires)
+overflow_add-line c = omega (arith, line_small c.args.text.now _ (kind_made c.args.form) c.loop-rest.line c.loop-rest.made c.args.number c.loop-rest.invariant c.requires.short c.requires.there)
 
 pub loop-rest-preserved : goal.loop-rest-preserved
 loop-rest-preserved c =
     let behind = lines_left (option_copied c.cut_line.result.1) in
     let next = ap (λ o. lines_left (option_copied o)) c.in-Some.is ∙ c.cut_line.ensures.lines in
-    let more = IsReadUpTo-more c.args.text.now _ (kind_made c.args.form) c.loop-rest.line c.loop-rest.made c.args.number c.loop-rest.invariant c.requires c.cut_line.result.0.now behind next c.if-makes.made in
+    let more = IsReadUpTo-more c.args.text.now _ (kind_made c.args.form) c.loop-rest.line c.loop-rest.made c.args.number c.loop-rest.invariant c.requires.short c.requires.there c.cut_line.result.0.now behind next c.if-makes.made in
     elim c.if-makes.branch [
       | then-makes+else-made-number w ↦ (let makes = sym (ap one_if c.makes.ensures) ∙ ap one_if w.if-makes.true in more (omega (arith, w.made-is, makes)) (omega (arith, w.made-is, c.loop-rest.invariant.not_before, w.if-made-number.false)))
       | else-makes w ↦ (let makes = sym (ap one_if c.makes.ensures) ∙ ap one_if w.if-makes.false in more (omega (arith, w.made-is, makes)) (omega (arith, w.made-is, c.loop-rest.invariant.not_before)))
@@ -30,4 +30,4 @@ loop-rest-preserved c =
 
 pub unreachable-requires : goal.unreachable-requires
 unreachable-requires c =
-    some_left c.args.text.now _ (kind_made c.args.form) c.loop-rest.line c.loop-rest.made c.args.number c.loop-rest.invariant c.requires (ap (λ o. lines_left (option_copied o)) c.in_default.is)
+    some_left c.args.text.now _ (kind_made c.args.form) c.loop-rest.line c.loop-rest.made c.args.number c.loop-rest.invariant c.requires.short c.requires.there (ap (λ o. lines_left (option_copied o)) c.in_default.is)

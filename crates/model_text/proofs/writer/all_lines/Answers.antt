@@ -15,7 +15,8 @@ returns c =
     let sections = append_kind m record_of.Section m.sections c.sections.ensures.records materials c.in_ok-put_all-2.ensures in
     let nodes = append_kind m record_of.Node m.nodes c.nodes.ensures.records sections c.in_ok-put_all-3.ensures in
     let elements = append_kind m record_of.Element m.elements c.elements.ensures.records nodes c.in_ok-put_all-4.ensures in
-    let restraints = append_kind m record_of.Restraint m.restraints c.restraints.ensures.records elements c.in_ok-put_all-5.ensures in
-    let cases = append_kind m record_of.Case m.cases c.cases.ensures.records restraints c.in_ok-put_all-6.ensures in
-    let forces = append_kind m record_of.Force m.forces c.forces.ensures.records cases c.in_ok-put_all-7.ensures in
+    let tees = append_kind m record_of.Tee m.tees c.tees.ensures.records elements c.in_ok-put_all-5.ensures in
+    let restraints = append_kind m record_of.Restraint m.restraints c.restraints.ensures.records tees c.in_ok-put_all-6.ensures in
+    let cases = append_kind m record_of.Case m.cases c.cases.ensures.records restraints c.in_ok-put_all-7.ensures in
+    let forces = append_kind m record_of.Force m.forces c.forces.ensures.records cases c.in_ok-put_all-8.ensures in
     forces ∙ simp (append_assoc, append-nil)
