@@ -6,3 +6,6 @@ pub mod ArcLaw
 pub mod EndLaws
 pub mod EndBalance
 pub mod NormalLemmas
+pub mod CurveLaw
+pub mod SomeWithin
+pub mod MadeVectors

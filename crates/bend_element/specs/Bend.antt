@@ -8,9 +8,9 @@ use Rattle.lists.specs.Results.{and_then}
 use Rattle.model_types.specs.declared.records.Element.{Element}
 use Rattle.member_set.specs.Members.{no_member}
 use Rattle.member_set.specs.declared.members.Member.{Member}
-use Rattle.member_pairs.specs.Lengths.{length_of, tangent_of, half_of}
+use Rattle.member_pairs.specs.Lengths.{length_of, tangent_of, half_of, tangent, half_length}
 use Rattle.member_pairs.specs.Pairs.{EnclosesMember}
-use Rattle.member_pairs.specs.Vectors.{parts_of, EnclosesVector}
+use Rattle.member_pairs.specs.Vectors.{Exact, parts_of, EnclosesVector}
 use Rattle.member_pairs.specs.declared.tube.Tube.{Tube}
 use Rattle.member_pairs.specs.declared.way.Way.{Way}
 use Rattle.bend_element.specs.Arcs.{ExactArc}
@@ -29,6 +29,10 @@ pub record IsFrameWithin (way : Way) (across : List Ends) (x : ExactFrame) : Typ
   pub chord : IfOk (and_then (length_of (parts_of way)) (tangent_of way)) (λ t. EnclosesVector t x.chord)
   pub normal : EnclosesVector across x.normal
   pub half : IfOk (and_then (length_of (parts_of way)) half_of) (λ e. Within e x.half)
+
+-- the place by the length of the chord, in 2^-36 micrometre, and the unit vector across the plane
+abbrev pub frame_by : Way → Fraction → Exact → ExactFrame
+frame_by way length normal = record { chord = tangent (parts_of way) length; normal = normal; half = half_length length }
 
 -- the number of a member among the six
 abbrev pub mode_number : Mode → ℕ

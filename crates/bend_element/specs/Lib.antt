@@ -7,3 +7,4 @@ pub mod Arc
 pub mod EndLoads
 pub mod Normal
 pub mod Between
+pub mod Vectors

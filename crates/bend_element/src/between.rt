@@ -1,18 +1,16 @@
-ghost use Rattle.std.specs.Prelude.{◌≡◌, Ok, pos, ◌<ℤ◌, All, IfOk};
+ghost use Rattle.std.specs.Prelude.{◌≡◌, Ok, All, IfOk};
 ghost use Rattle.angle_table.specs.Pi.{pi_ends};
 ghost use Rattle.flex_interval.specs.Fraction.{Fraction, Within};
-ghost use Rattle.model_types.specs.Ranges.{MaterialInForm, NodeInForm};
+ghost use Rattle.model_types.specs.Ranges.{BendInForm, MaterialInForm, NodeInForm};
 ghost use Rattle.model_types.specs.Rules.{IsSpan};
 ghost use Rattle.section_data.specs.Tube.{IsTube};
 ghost use Rattle.member_pairs.specs.Pairs.{IsMemberOf};
-ghost use Rattle.member_pairs.specs.Span.{square_of};
 ghost use Rattle.member_pairs.specs.Tubes.{tube_of};
 ghost use Rattle.member_pairs.specs.Vectors.{way_of};
-ghost use Rattle.bend_element.specs.Arcs.{IsArc, ExactArc};
+ghost use Rattle.bend_element.specs.Arcs.{IsArc, ExactArc, EnclosesArc};
 ghost use Rattle.bend_element.specs.Bend.{EnclosesBend};
-ghost use Rattle.bend_element.specs.Between.{IsCurve, arc_of, bend_of, IsArcWithin, IsExactArc, IsPlaceWithin};
+ghost use Rattle.bend_element.specs.Between.{IsCurve, IsOffLine, arc_of, bend_of, curve_from, IsArcWithin, IsExactArc, IsPlaceWithin, SomeWithin};
 ghost use Rattle.bend_element.specs.ExactBend.{ExactFrame};
-ghost use Rattle.bend_element.specs.Normal.{normal_parts, normal_to};
 
 use crate::arc::Arc;
 use crate::members::bend_members;
@@ -36,6 +34,24 @@ pub struct Curve {
     pub corner: Way,
 }
 
+/// How a bend runs from its first node, by its radius and the place of its corner in micrometres, and its angle in thousandths of a
+/// degree.
+pub fn curve_from(from: &Node, radius: i64, angle: u32, x: i64, y: i64, z: i64) -> Curve
+    requires from { NodeInForm from.now }
+    requires form { BendInForm radius angle x y z }
+    ensures { result ≡ curve_from from.now radius angle x y z }
+{
+    Curve {
+        radius,
+        angle,
+        corner: Way {
+            x: x - from.x,
+            y: y - from.y,
+            z: z - from.z,
+        },
+    }
+}
+
 /// The six members of a bend between two nodes: rotation in its plane, forces along its middle radius and its chord, moments
 /// about the middle radius and the chord, and a force across its plane.
 ///
@@ -56,7 +72,7 @@ pub fn bend(
     requires tube { IsTube s.now }
     requires material { MaterialInForm m.now }
     requires curve { IsCurve s.now curve.now }
-    requires off_chord { pos 0 <ℤ square_of (normal_parts (normal_to (way_of from.now to.now) curve.now.corner)) }
+    requires off_line { IsOffLine (way_of from.now to.now) curve.now.corner }
 
     ensures value { result ≡ bend_of e.now (tube_of s.now m.now) s.now (way_of from.now to.now) curve.now }
     ensures limits { IfOk result (λ members. All (IsMemberOf e.now) members) }
@@ -67,6 +83,7 @@ pub fn bend(
 
     // The exact half angle and flexibility factor are such a choice.
     ensures exact { (x : ExactArc) (pi : Fraction) → Within pi_ends pi → IsExactArc s.now curve.now pi x → IsArcWithin s.now curve.now x }
+    ensures some { IfOk result (λ _. SomeWithin s.now (way_of from.now to.now) curve.now) }
 {
     let arc = arc_along(s, curve);
     let way = way_between(from, to);
@@ -81,6 +98,7 @@ fn arc_along(s: &Section, curve: &Curve) -> Arc
     ensures value { arc_of s.now curve.now ≡ Ok result }
     ensures arc { IsArc result }
     ensures exact { (x : ExactArc) (pi : Fraction) → Within pi_ends pi → IsExactArc s.now curve.now pi x → IsArcWithin s.now curve.now x }
+    ensures some { (x : ExactArc) × EnclosesArc result x }
 {
     let half = half(curve.angle);
     let factors = bend_factors(s, curve.radius);

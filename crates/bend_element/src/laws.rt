@@ -1,4 +1,5 @@
 ghost use Rattle.bend_element.specs.Arc.{PatternsWorkApart};
+ghost use Rattle.bend_element.specs.Between.{BendSpansAreCurves};
 ghost use Rattle.bend_element.specs.EndLoads.{MembersBalance, MembersCarryLoad, MembersGiveAsArc};
 
 /// Of Castigliano's theorem along a bend's arc: no two of the six patterns of load work on each other, each gives by the
@@ -13,4 +14,10 @@ pub fn members_are_arc()
     ensures balance { MembersBalance }
     ensures carry { MembersCarryLoad }
     ensures give { MembersGiveAsArc }
+{}
+
+/// A bend that keeps the rule of its record runs along a curve: its radius has room for the pipe, and its corner is near and lies off
+/// the line of its chord.
+pub fn bend_spans_are_curves()
+    ensures { BendSpansAreCurves }
 {}

@@ -1,4 +1,4 @@
-//! The members of a circular bend: six stiffnesses of rank one, each with its shape vector, and the unit vector across its plane.
+//! The members of a circular bend: six stiffnesses of rank one, each with its shape vector, and the unit vectors along its ends and across its plane.
 #![tactic(auto)]
 
 mod arc;
@@ -11,9 +11,11 @@ mod laws;
 mod members;
 mod normal;
 mod stiffness;
+mod vectors;
 
 pub use arc::Arc;
-pub use between::{Curve, bend};
-pub use laws::{members_are_arc, patterns_work_apart};
+pub use between::{Curve, bend, curve_from};
+pub use laws::{bend_spans_are_curves, members_are_arc, patterns_work_apart};
 pub use members::bend_members;
 pub use normal::{Normal, plane_normal, unit_normal};
+pub use vectors::{BendVectors, bend_vectors};

@@ -3,10 +3,11 @@ ghost use Rattle.flex_interval.specs.Fraction.{Fraction, Within};
 ghost use Rattle.angle_table.specs.Pi.{pi_ends};
 ghost use Rattle.member_pairs.specs.Pairs.{EnclosesMember, IsMemberOf};
 ghost use Rattle.member_pairs.specs.Tubes.{IsRoundTube};
-ghost use Rattle.member_pairs.specs.Vectors.{IsWay};
+ghost use Rattle.member_pairs.specs.Lengths.{IsLengthWithin};
+ghost use Rattle.member_pairs.specs.Vectors.{Exact, IsWay, EnclosesVector, parts_of};
 ghost use Rattle.member_pairs.specs.declared.tube.Tube.{Tube};
 ghost use Rattle.bend_element.specs.Arcs.{IsArc, ExactArc, EnclosesArc};
-ghost use Rattle.bend_element.specs.Bend.{bend_members_of, IsFrameWithin, EnclosesBend};
+ghost use Rattle.bend_element.specs.Bend.{bend_members_of, IsFrameWithin, EnclosesBend, frame_by};
 ghost use Rattle.bend_element.specs.ExactBend.{ExactFrame, plane_rotation, radial_force, chord_force, radius_moment as about_radius, chord_moment as about_chord, normal_force, plane_centre, normal_centre, stiffness, shape_of};
 ghost use Rattle.bend_element.specs.Rounded.{rotation_member, radial_member, chord_member, radius_moment_member, chord_moment_member, normal_member, six_of};
 ghost use Rattle.bend_element.specs.Stages.{EnclosesFlexibility, EnclosesStiffness, EnclosesFrame};
@@ -45,6 +46,7 @@ pub fn bend_members(
     // Each exact stiffness and shape vector lies in its member.
     ensures within { IfOk result (λ members. (x : ExactArc) (place : ExactFrame) (pi : Fraction) → EnclosesArc arc.now x → IsFrameWithin way.now normal.now place → Within pi_ends pi →
         EnclosesBend members tube.now x place pi) }
+    ensures place { IfOk result (λ _. (l : Fraction) (n : Exact) → IsLengthWithin (parts_of way.now) l → EnclosesVector normal.now n → IsFrameWithin way.now normal.now (frame_by way.now l n)) }
 {
     let frame = frame_along(way, normal)?;
     let flexibility = flexibilities(tube, arc)?;

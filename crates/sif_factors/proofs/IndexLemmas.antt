@@ -47,11 +47,12 @@ index_encloses cube root n m square encloses within =
     let hi_positive : pos 0 ≤ℤ root.hi = omega (arith, int_sums, encloses.nonnegative, encloses.ordered) in
     let more = power_le 2 root.hi (int_max root.hi one) hi_positive (omega (arith, int_sums, clamps)) in
     let scaled_more = le_mul den (omega (arith, int_sums, within.defined)) more in
+    let above : (pos (2 ^ 90) *ℤ (n *ℤ square.den)) ≤ℤ (power (int_max root.hi one) 3 *ℤ den) = omega (arith, int_sums, root_above cube root n m square encloses within) in
     record {
       lo_from_one = omega (arith, int_sums, clamps);
       hi_from_one = omega (arith, int_sums, clamps);
       lower = by_lt_z one root.lo
           (λ above. inr (let same : int_max root.lo one ≡ root.lo = omega (arith, int_sums, clamps) in rw same (root_below cube root n m square encloses within)))
           (λ below. inl (omega (arith, int_sums, clamps)));
-      upper = omega (arith, int_sums, root_above cube root n m square encloses within);
+      upper = above;
     }

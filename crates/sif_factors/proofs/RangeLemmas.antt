@@ -1,8 +1,14 @@
--- Bends and tees of a text keep 1/h in range.
-use Rattle.std.proofs.Common.{arith, ℤ, pos, ◌*ℤ◌, ◌≤ℤ◌, ◌<ℤ◌}
+-- Bends and tees of a text keep 1/h in range, and the index in plane of a tee is a factor.
+use Rattle.std.proofs.Common.{◌≡◌, ◌^◌, arith, subst, true, false, Bool, ℤ, pos, ◌+ℤ◌, ◌*ℤ◌, ◌≤ℤ◌, ◌<ℤ◌, Result, Ok, Err, if◌then◌else◌}
 use Rattle.std.proofs.lemmas.Int.{ints}
 use Rattle.int_laws.proofs.Sums.{int_sums}
 use Rattle.int_laws.proofs.Products.{le_mul, mul_comm, mul_positive, square_nonnegative, product_most}
+use Rattle.flex_interval.specs.Ends.{Ends}
+use Rattle.flex_interval.specs.declared.fault.IvFault.{IvFault}
+use Rattle.flex_interval.specs.declared.fault.IvFault.TheVariants as fault
+use Rattle.flex_interval.specs.Operations.{add_of, ends, is_small, small_of}
+use Rattle.lists.specs.Results.{and_then}
+use Rattle.sif_factors.specs.Factors.{IsFactor}
 use Rattle.sif_factors.specs.Inverse.{InverseInRange}
 
 -- a product by the upper end of an interval from 0 on, and that end's square
@@ -56,3 +62,19 @@ coefficient_range m c t positive high t_low t_high c_low c_high =
       den_high = omega (arith, ints, wall.1);
       ratio = omega (arith, ints, wall.2);
     }
+
+-- ---- the ends of a sum are the sums of the ends
+abbrev tested : Bool → ℤ → Result ℤ IvFault
+tested t x = if t then Ok x else Err fault.Wide
+
+two_tested : (s t : Bool) (p q : ℤ) (e : Ends) → and_then (tested s p) (λ x. and_then (tested t q) (λ y. Ok (ends x y))) ≡ Ok e → ends p q ≡ e
+two_tested true true p q e is = cc
+two_tested true false p q e is = absurd (cc)
+two_tested false t p q e is = absurd (cc)
+
+sum_is : (a b e : Ends) → add_of a b ≡ Ok e → ends (a.lo +ℤ b.lo) (a.hi +ℤ b.hi) ≡ e
+unfolding add_of
+sum_is a b e is = two_tested (is_small (a.lo +ℤ b.lo)) (is_small (a.hi +ℤ b.hi)) (a.lo +ℤ b.lo) (a.hi +ℤ b.hi) e is
+
+pub sum_is_factor : (a b e : Ends) → add_of a b ≡ Ok e → pos 0 ≤ℤ a.lo → a.hi ≤ℤ pos (2 ^ 42) → pos 0 ≤ℤ b.lo → b.hi ≤ℤ pos (2 ^ 42) → IsFactor e
+sum_is_factor a b e is a_low a_high b_low b_high = subst IsFactor (sum_is a b e is) (record { low = omega (arith, int_sums); high = omega (arith, int_sums) })

@@ -18,12 +18,6 @@ pub record IsBendRadius (s : Section) (r : ℤ) : Type 0 where
   pub range : IsIn (from_to 1000 15000000) r
   pub room : s.d ≤ℤ (pos 2 *ℤ r)
 
--- the thickness of a pad and the coefficient of a tee, in range
-abbrev pub TeeKindInForm : TeeKind → Type 0
-TeeKindInForm Unreinforced = Unit {0}
-TeeKindInForm (Pad thickness) = IsIn (from_to 1 200000) thickness
-TeeKindInForm (Coefficient c) = IsIn (from_to 100 100000) c
-
 -- 2 r2 = D - T
 abbrev pub mean_diameter : Section → ℤ
 mean_diameter s = s.d -ℤ s.t

@@ -1,5 +1,5 @@
 -- The factors of a bend and of a tee: what encloses them, and their intervals.
-use Rattle.std.specs.Prelude.{◌^◌, ℤ, pos, ◌+ℤ◌, ◌*ℤ◌, int_le, Result, Ok, if◌then◌else◌}
+use Rattle.std.specs.Prelude.{◌^◌, ℤ, pos, ◌+ℤ◌, ◌*ℤ◌, ◌≤ℤ◌, int_le, Result, Ok, if◌then◌else◌}
 use Rattle.flex_interval.specs.Ends.{Ends}
 use Rattle.flex_interval.specs.Fraction.{Fraction, whole, greater, over}
 use Rattle.flex_interval.specs.declared.fault.IvFault.{IvFault}
@@ -23,6 +23,16 @@ greater_cube = cubed (fraction (pos 9) (pos 10))
 
 abbrev pub lesser_cube : Fraction
 lesser_cube = cubed (fraction (pos 3) (pos 4))
+
+-- a factor's interval runs from 0 on, and to 2^75 at most
+pub record IsFactor (e : Ends) : Type 0 where
+  pub low : pos 0 ≤ℤ e.lo
+  pub high : e.hi ≤ℤ pos (2 ^ 75)
+
+pub record AreFactors (f : Factors) : Type 0 where
+  pub k : IsFactor f.k
+  pub ii : IsFactor f.ii
+  pub io : IsFactor f.io
 
 -- the factors of a bend of radius r
 unfoldable pub bend_factors_of : Section → ℤ → Result Factors IvFault

@@ -2,9 +2,10 @@ ghost use Rattle.std.specs.Prelude.{◌≡◌, Ok, ◌*◌, ◌^◌, ◌⊎◌, 
 ghost use Rattle.flex_interval.specs.Fraction.{Within};
 ghost use Rattle.sif_factors.specs.Parts.{in_parts, reciprocal};
 ghost use Rattle.sif_factors.specs.Inverse.{InverseInRange};
-ghost use Rattle.sif_factors.specs.Characteristic.{HasBore, IsBendRadius, TeeKindInForm, mean_diameter as mean_diameter_of, tee_square};
+ghost use Rattle.sif_factors.specs.Characteristic.{HasBore, IsBendRadius, mean_diameter as mean_diameter_of, tee_square};
 ghost use Rattle.sif_factors.specs.Factors.{tee_inverse_square_of};
-ghost use Rattle.model_types.specs.Ranges.{IsIn, from_to};
+ghost use Rattle.model_types.specs.Ranges.{IsIn, TeeInForm};
+ghost use Rattle.model_types.specs.declared.ranges.TheConstants.{PAD_THICKNESS, TEE_COEFFICIENT};
 ghost use Rattle.model_types.specs.declared.records.TeeKind.{TeeKind};
 
 use crate::index::{Inverse, inverse_square, padded};
@@ -40,7 +41,7 @@ fn mean_diameter(s: &Section) -> i128
 #[tactic(auto, unfolding(crate::specs::Factors::tee_inverse_square_of))]
 pub fn tee_inverse_square(header: &Section, kind: TeeKind) -> Iv
     requires section { HasBore header.now }
-    requires kind { TeeKindInForm kind }
+    requires kind { TeeInForm kind }
     ensures value { tee_inverse_square_of header.now kind ≡ Ok result }
     ensures within { Within result (in_parts (reciprocal (tee_square header.now kind)) 40) }
     ensures lo { pos 0 ≤ℤ result.lo }
@@ -56,7 +57,7 @@ pub fn tee_inverse_square(header: &Section, kind: TeeKind) -> Iv
 /// `1/h^2` of a tee with a pad of this thickness, in units of 2^-40. A pad over 1.5 times the wall counts as four walls.
 fn pad_inverse_square(header: &Section, thickness: i64) -> Iv
     requires section { HasBore header.now }
-    requires pad { IsIn (from_to 1 200000) thickness }
+    requires pad { IsIn PAD_THICKNESS thickness }
     ensures value { tee_inverse_square_of header.now (TeeKind.Pad thickness) ≡ Ok result }
     ensures within { Within result (in_parts (reciprocal (tee_square header.now (TeeKind.Pad thickness))) 40) }
     ensures lo { pos 0 ≤ℤ result.lo }
@@ -90,7 +91,7 @@ fn wall_inverse(header: &Section, n: i64) -> Inverse
 /// `1/h` for `h = c T / r2`, with c in thousandths.
 fn coefficient_inverse(header: &Section, c: i64) -> Inverse
     requires section { HasBore header.now }
-    requires coefficient { IsIn (from_to 100 100000) c }
+    requires coefficient { IsIn TEE_COEFFICIENT c }
     ensures num { result.num ≡ pos 500 *ℤ mean_diameter_of header.now }
     ensures den { result.den ≡ c *ℤ header.now.t }
     ensures range { InverseInRange result }
@@ -104,7 +105,7 @@ fn coefficient_inverse(header: &Section, c: i64) -> Inverse
 /// `T / (T + p/2)` for a pad of thickness p.
 fn pad_wall(header: &Section, thickness: i64) -> Inverse
     requires section { HasBore header.now }
-    requires pad { IsIn (from_to 1 200000) thickness }
+    requires pad { IsIn PAD_THICKNESS thickness }
     ensures num { result.num ≡ pos 2 *ℤ header.now.t }
     ensures den { result.den ≡ (pos 2 *ℤ header.now.t) +ℤ thickness }
     ensures range { InverseInRange result }
@@ -118,7 +119,7 @@ fn pad_wall(header: &Section, thickness: i64) -> Inverse
 /// `r2 / (T + p/2)` for a pad of thickness p.
 fn pad_inverse(header: &Section, thickness: i64) -> Inverse
     requires section { HasBore header.now }
-    requires pad { IsIn (from_to 1 200000) thickness }
+    requires pad { IsIn PAD_THICKNESS thickness }
     ensures num { result.num ≡ mean_diameter_of header.now }
     ensures den { result.den ≡ (pos 2 *ℤ header.now.t) +ℤ thickness }
     ensures range { InverseInRange result }

@@ -5,7 +5,7 @@ ghost use Rattle.sif_factors.specs.Parts.{fraction, in_parts, reciprocal, multip
 ghost use Rattle.sif_factors.specs.Inverse.{InverseInRange};
 ghost use Rattle.sif_factors.specs.Index.{EnclosesIndex};
 ghost use Rattle.sif_factors.specs.Rounded.{inverse_of, inverse_square_of, cube_of, padded_of, index_of, in_plane_index_of, flexibility_factor_of};
-ghost use Rattle.sif_factors.specs.Factors.{flexibility_factor};
+ghost use Rattle.sif_factors.specs.Factors.{IsFactor, flexibility_factor};
 
 use flex_interval::{Iv, max, point, share, small_cbrt, small_product, small_sum};
 
@@ -112,6 +112,7 @@ pub fn in_plane(io: Iv) -> Iv
     requires hi { io.hi ≤ℤ pos (2 ^ 42) }
     ensures value { in_plane_index_of io ≡ Ok result }
     ensures within { (i : Fraction) → Within io i → Within result (plus (scaled i (pos 3) (pos 4)) (whole (pos (2 ^ 28)))) }
+    ensures size { IsFactor result }
 {
     small_sum(share(io, 3, 4), point(1 << 28))
 }
@@ -122,6 +123,7 @@ pub fn bend_flexibility(i: &Inverse) -> Iv
     requires { InverseInRange i.now }
     ensures value { flexibility_factor_of i.now.num i.now.den ≡ Ok result }
     ensures within { Within result (flexibility_factor (fraction i.now.den i.now.num)) }
+    ensures size { IsFactor result }
 {
     let k = share(point(165 * i.num), 1 << 56, 100 * i.den);
     max(k, point(1 << 56))

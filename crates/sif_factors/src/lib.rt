@@ -4,10 +4,11 @@
 ghost use Rattle.std.specs.Prelude.{◌≡◌, Ok, ◌^◌, pos};
 ghost use Rattle.flex_interval.specs.Fraction.{Fraction, Within, whole, plus, scaled};
 ghost use Rattle.flex_interval.specs.Operations.{point_of};
+ghost use Rattle.model_types.specs.Ranges.{TeeInForm};
 ghost use Rattle.sif_factors.specs.Parts.{squared};
-ghost use Rattle.sif_factors.specs.Characteristic.{HasBore, IsBendRadius, TeeKindInForm, bend_characteristic, tee_square};
+ghost use Rattle.sif_factors.specs.Characteristic.{HasBore, IsBendRadius, bend_characteristic, tee_square};
 ghost use Rattle.sif_factors.specs.Index.{EnclosesIndex};
-ghost use Rattle.sif_factors.specs.Factors.{flexibility_factor, greater_cube, lesser_cube, bend_factors_of, tee_factors_of};
+ghost use Rattle.sif_factors.specs.Factors.{AreFactors, flexibility_factor, greater_cube, lesser_cube, bend_factors_of, tee_factors_of};
 
 use flex_interval::{Iv, point};
 use model_types::{Section, TeeKind};
@@ -38,6 +39,7 @@ pub fn bend_factors(s: &Section, r: i64) -> Factors
     ensures flexibility { Within result.k (flexibility_factor (bend_characteristic s.now r)) }
     ensures in_plane { EnclosesIndex greater_cube (squared (bend_characteristic s.now r)) result.ii }
     ensures out_of_plane { EnclosesIndex lesser_cube (squared (bend_characteristic s.now r)) result.io }
+    ensures sizes { AreFactors result }
 {
     let inverse = characteristic::bend_inverse(s, r);
     let square = index::inverse_square(&inverse);
@@ -52,11 +54,12 @@ pub fn bend_factors(s: &Section, r: i64) -> Factors
 #[tactic(auto, unfolding(crate::specs::Factors::tee_factors_of))]
 pub fn tee_factors(header: &Section, kind: TeeKind) -> Factors
     requires section { HasBore header.now }
-    requires kind { TeeKindInForm kind }
+    requires kind { TeeInForm kind }
     ensures value { tee_factors_of header.now kind ≡ Ok result }
     ensures flexibility { result.k ≡ point_of (pos (2 ^ 56)) }
     ensures out_of_plane { EnclosesIndex greater_cube (tee_square header.now kind) result.io }
     ensures in_plane { (i : Fraction) → Within result.io i → Within result.ii (plus (scaled i (pos 3) (pos 4)) (whole (pos (2 ^ 28)))) }
+    ensures sizes { AreFactors result }
 {
     let io = index::index(characteristic::tee_inverse_square(header, kind), 729, 1000);
     Factors {

@@ -1,4 +1,5 @@
-use Rattle.std.proofs.Common.{refl, to_z-of_z}
+use Rattle.std.proofs.Common.{refl, to_z-of_z, arith}
+use Rattle.std.proofs.lemmas.Int.{ints}
 use Rattle.sif_factors.specs.Parts.{squared}
 use Rattle.sif_factors.specs.Characteristic.{bend_characteristic}
 use Rattle.sif_factors.specs.Factors.{bend_factors_of}
@@ -26,3 +27,10 @@ pub returns-clause-out_of_plane : goal.returns-clause-out_of_plane
 returns-clause-out_of_plane c =
     let den = rw (to_z-of_z c.ranges.r) at c.bend_inverse-inverse.ensures.den in
     c.index-2.ensures.encloses (squared (bend_characteristic c.args.s.now c.args.r)) (rw (c.bend_inverse-inverse.ensures.num, den) at c.inverse_square-square.ensures.within)
+
+pub returns-clause-sizes : goal.returns-clause-sizes
+returns-clause-sizes c = record {
+  k = c.bend_flexibility.ensures.size;
+  ii = record { low = c.index.ensures.lo; high = omega (arith, ints, c.index.ensures.hi) };
+  io = record { low = c.index-2.ensures.lo; high = omega (arith, ints, c.index-2.ensures.hi) };
+}

@@ -1,9 +1,14 @@
-use Rattle.std.proofs.Common.{◌≡◌, Ok, refl, subst, arith, FitsSigned, to_z-of_z}
+use Rattle.std.proofs.Common.{rules, ◌≤ℤ◌, ℤ, pos, ◌≡◌, Ok, refl, subst, arith, FitsSigned, to_z-of_z}
 use Rattle.std.proofs.lemmas.Int.{ints}
 use Rattle.std.specs.Int.{w64}
-use Rattle.flex_interval.specs.Fraction.{Within}
+use Rattle.flex_interval.specs.Fraction.{Fraction, Within, scaled}
+use Rattle.sif_factors.specs.Characteristic.{bend_characteristic}
+use Rattle.sif_factors.specs.Factors.{flexibility_factor}
+use Rattle.bend_element.specs.Arcs.{ExactArc, EnclosesArc}
 use Rattle.bend_element.specs.Between.{arc_of}
 use Rattle.bend_element.specs.declared.arc.Arc.{Arc}
+use Rattle.angle_table.specs.Pi.{pi_ends}
+use Rattle.bend_element.proofs.SomeWithin.{lower_within}
 use Rattle.bend_element.proofs.between.arc_along.Goals as goal
 
 fits : (c : goal.After-result-1) → FitsSigned w64 c.args.curve.now.radius
@@ -32,3 +37,28 @@ returns-clause-exact c = λ x pi in_pi exact.
       cos = rw c.half-half.ensures.value.cos at exact.cos;
       k = subst (Within c.bend_factors-factors.result.k) exact.k flexibility;
     })
+
+abbrev lower : ℤ → Fraction
+lower z = record { num = z; den = pos 1 }
+
+-- an arc within
+some : (c : goal.After-result-1) → (x : ExactArc) × EnclosesArc (arc c) x
+some c =
+    let half = c.half-half.result in
+    let sin : half.sin.lo ≤ℤ half.sin.hi = search rules in
+    let cos : half.cos.lo ≤ℤ half.cos.hi = search rules in
+    let pi = lower_within pi_ends (omega (arith, ints)) in
+    let r = c.args.curve.now.radius in
+    let flexibility = rw (to_z-of_z (fits c)) at c.bend_factors-factors.ensures.flexibility in (
+      record {
+        radius = r;
+        a = scaled (lower pi_ends.lo) (pos c.args.curve.now.angle) (pos 360000);
+        sin = lower half.sin.lo;
+        cos = lower half.cos.lo;
+        k = flexibility_factor (bend_characteristic c.args.s.now r);
+      },
+      record { radius = refl; a = c.half-half.ensures.encloses.arc (lower pi_ends.lo) pi; sin = lower_within half.sin sin; cos = lower_within half.cos cos; k = flexibility },
+    )
+
+pub returns-clause-some : goal.returns-clause-some
+returns-clause-some c = rw (to_z-of_z (fits c)) (some c)

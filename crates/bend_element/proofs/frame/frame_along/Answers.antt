@@ -9,3 +9,12 @@ returns-clause-within c = λ x h.
       side = c.in_ok-side.ensures.within _ _ h.normal chord;
       half = rw (← c.in_ok-length.ensures, ← c.in_ok-half.ensures.value) at h.half;
     }
+
+pub returns-clause-place : goal.returns-clause-place
+returns-clause-place c = λ l n long normal.
+    let length = rw (← c.in_ok-length.ensures) at long in
+    record {
+      chord = rw (← c.in_ok-length.ensures, ← c.in_ok-chord.ensures.value) (c.in_ok-chord.ensures.within l length);
+      normal = normal;
+      half = rw (← c.in_ok-length.ensures, ← c.in_ok-half.ensures.value) (c.in_ok-half.ensures.within l length);
+    }

@@ -9,3 +9,6 @@ returns-clause-within c =
     let rigidity = c.in_ok-rigidity.ensures.within pi x in_pi h in
     encloses _ x place pi (c.in_ok-stiffness.ensures.within _ x pi rigidity f) (c.in_ok-frame.ensures.within place frame) f)
     c.six.ensures.within
+
+pub returns-clause-place : goal.returns-clause-place
+returns-clause-place c = IfOk-weaker c.six.result _ _ (λ members encloses. c.in_ok-frame.ensures.place) c.six.ensures.within
