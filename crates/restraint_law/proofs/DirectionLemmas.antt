@@ -1,5 +1,5 @@
 -- The length of a direction is positive, and its parts are small enough to be divided by it.
-use Rattle.std.proofs.Common.{◌≡◌, ℕ, zero, suc, ◌+◌, ◌*◌, ◌/◌, ◌^◌, ◌<◌, ◌≤◌, true, false, nat_le, nat_eq, int_le, ◌&&◌, inl, inr, if◌then◌else◌, refl, sym, ap, ◌∙◌, arith, Ok, ℤ, pos, ◌+ℤ◌, ◌*ℤ◌, ◌≤ℤ◌, ◌<ℤ◌, unsigned_abs, FitsSigned, ◌⊎◌}
+use Rattle.std.proofs.Common.{◌≡◌, ℕ, zero, suc, ◌+◌, ◌*◌, ◌/◌, ◌^◌, ◌<◌, ◌≤◌, true, false, nat_le, nat_eq, int_le, ◌&&◌, inl, inr, if◌then◌else◌, refl, sym, ap, ◌∙◌, arith, Ok, ℤ, pos, ◌+ℤ◌, ◌*ℤ◌, ◌-ℤ◌, neg_ℤ, ◌≤ℤ◌, ◌<ℤ◌, unsigned_abs, FitsSigned, ◌⊎◌}
 use Rattle.std.specs.Int.{w64, w128}
 use Rattle.flex_interval.specs.Fraction.{Fraction, Within}
 use Rattle.flex_interval.specs.Roots.{IsNonnegative, raised}
@@ -80,7 +80,7 @@ part_small x n h some part small =
     rw (unsigned_abs-mul x (pos (2 ^ (56 + h)))) (scaled_most (unsigned_abs x) h (root_most (unsigned_abs x) (unsigned_abs n) h (size_square x n part) below))
 
 -- ---- nothing fails
-product_is : (x y : ℤ) → unsigned_abs (x *ℤ y) < 2 ^ 126 → product_of x y ≡ Ok (x *ℤ y)
+pub product_is : (x y : ℤ) → unsigned_abs (x *ℤ y) < 2 ^ 126 → product_of x y ≡ Ok (x *ℤ y)
 product_is x y small = grind (arith, nat_tests)
 
 apart_from_zero : (b : Ends) → pos 0 <ℤ b.lo → holds_zero b ≡ false
@@ -140,6 +140,12 @@ parts_within x y z = three_parts (x *ℤ x) (y *ℤ y) (z *ℤ z) (square_nonneg
 -- ---- sizes
 pub part_fits : (z : ℤ) → IsIn DIRECTION_PART z → FitsSigned w64 z
 part_fits z h = omega (arith, int_sums, h.least, h.most)
+
+pub negated_fits : (z : ℤ) → IsIn DIRECTION_PART z → FitsSigned w64 (pos 0 -ℤ z)
+negated_fits z h = omega (arith, int_sums, h.least, h.most)
+
+pub zero-sub : (z : ℤ) → pos 0 -ℤ z ≡ neg_ℤ z
+zero-sub z = omega (arith, int_sums)
 
 pub two_fit : (p q : ℤ) → pos 0 ≤ℤ p → pos 0 ≤ℤ q → p ≤ℤ pos 1000000000000 → q ≤ℤ pos 1000000000000 → FitsSigned w128 (p +ℤ q)
 two_fit p q low_p low_q high_p high_q = omega (arith, int_sums)

@@ -1,2 +1,3 @@
 pub mod DirectionLemmas
 pub mod MemberLemmas
+pub mod GapLemmas

@@ -1,5 +1,5 @@
 -- A member with a vector's enclosure encloses the vector.
-use Rattle.std.proofs.Common.{◌≡◌, ℕ, ◌^◌, List, [], ◌∷◌, arith, ℤ, pos, ◌*ℤ◌, Option, FitsSigned, Result, IfOk, Vec, Global}
+use Rattle.std.proofs.Common.{◌≡◌, ℕ, ◌^◌, List, arith, ℤ, pos, ◌*ℤ◌, Option, FitsSigned, Result, IfOk, Vec, Global}
 use Rattle.std.proofs.lemmas.Result.{IfOk-weaker}
 use Rattle.std.specs.Int.{w64}
 use Rattle.int_laws.proofs.Sums.{int_sums}
@@ -80,8 +80,11 @@ anchor_held node kt kr rotation x_axis = record { stiffness = point_within (anch
 anchor_held node kt kr rotation y_axis = record { stiffness = point_within (anchor_stiffness kr *ℤ pos (2 ^ 20)); shape = shape_rotation _ _ _ (exact_axis y_axis) (axis_enclosed y_axis) }
 anchor_held node kt kr rotation z_axis = record { stiffness = point_within (anchor_stiffness kr *ℤ pos (2 ^ 20)); shape = shape_rotation _ _ _ (exact_axis z_axis) (axis_enclosed z_axis) }
 
--- what holds of the list of one member holds of its copy, if there is one
-pub copy_holds : {E : Type 0} (r : Result (Vec Member Global) E) (m : Member) (Q : List Member → Type 0) → Q (m ∷ [])
-    → IfOk r (λ v. ((x : Member) → (y : Member) → y ≡ x → y ≡ x) → v.items ≡ m ∷ []) → IfOk r (λ v. Q v.items)
-copy_holds r m Q held copied =
-    IfOk-weaker r (λ v. ((x : Member) → (y : Member) → y ≡ x → y ≡ x) → v.items ≡ m ∷ []) (λ v. Q v.items) (λ v same. rw (same (λ _ _ e. e)) held) copied
+pub hanger_held : (node : ℕ) (rate : ℤ) → HoldsAlong (restraint_member node rate (on_translation (axis_vector z_axis))) rate translation (exact_axis z_axis)
+hanger_held node rate = record { stiffness = point_within (rate *ℤ pos (2 ^ 20)); shape = shape_translation _ _ _ (exact_axis z_axis) (axis_enclosed z_axis) }
+
+-- what holds of a list of members holds of its copy, if there is one
+pub copy_holds : {E : Type 0} (r : Result (Vec Member Global) E) (ms : List Member) (Q : List Member → Type 0) → Q ms
+    → IfOk r (λ v. ((x : Member) → (y : Member) → y ≡ x → y ≡ x) → v.items ≡ ms) → IfOk r (λ v. Q v.items)
+copy_holds r ms Q held copied =
+    IfOk-weaker r (λ v. ((x : Member) → (y : Member) → y ≡ x → y ≡ x) → v.items ≡ ms) (λ v. Q v.items) (λ v same. rw (same (λ _ _ e. e)) held) copied

@@ -1,5 +1,5 @@
 -- The unit vector along a direction of whole numbers.
-use Rattle.std.specs.Prelude.{ℕ, ◌≡◌, ◌+◌, ◌*◌, ◌^◌, List, ℤ, pos, ◌*ℤ◌}
+use Rattle.std.specs.Prelude.{ℕ, ◌≡◌, ◌+◌, ◌*◌, ◌^◌, List, ℤ, pos, ◌*ℤ◌, neg_ℤ}
 use Rattle.int_laws.specs.Root.{root_of, root_up_of}
 use Rattle.flex_interval.specs.BestRoot.{half_shift_of}
 use Rattle.flex_interval.specs.Ends.{Ends}
@@ -17,6 +17,10 @@ abbrev pub towards : ℤ → ℤ → ℤ → Span
 towards x y z x_axis = x
 towards x y z y_axis = y
 towards x y z z_axis = z
+
+-- the vector of the opposite parts
+abbrev pub against : ℤ → ℤ → ℤ → Span
+against x y z = towards (neg_ℤ x) (neg_ℤ y) (neg_ℤ z)
 
 abbrev pub parts : Direction → Span
 parts d = towards d.x d.y d.z

@@ -1,4 +1,4 @@
-//! What the restraints of a node hold: their members, each a stiffness and a unit vector, and the states of the members.
+//! What the restraints of a node hold: their members, each a stiffness and a unit vector, and the law and the states of each.
 #![tactic(auto)]
 
 mod direction;
@@ -7,4 +7,4 @@ mod states;
 
 pub use direction::{Direction, unit_vector};
 pub use members::restraint;
-pub use states::state_count;
+pub use states::{law, starts_closed, state_count};
