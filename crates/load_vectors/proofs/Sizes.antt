@@ -14,7 +14,7 @@ use Rattle.member_set.specs.Interval.{Outcome}
 use Rattle.member_set.specs.Members.{nothing}
 use Rattle.model_types.specs.Ranges.{IsIn}
 use Rattle.model_types.specs.declared.ranges.TheConstants.{LOAD}
-use Rattle.load_vectors.specs.Totals.{units_of, most_units, IsOfForces}
+use Rattle.load_vectors.specs.Totals.{units_of, most_units, IsOfTerms}
 
 small_of-ok : (x : ℤ) → unsigned_abs x < 2 ^ 126 → small_of x ≡ Ok x
 small_of-ok x small = grind (arith, nat_tests)
@@ -40,7 +40,7 @@ size_from : (x : ℤ) (m : ℕ) → neg_ℤ (pos m) ≤ℤ x → x ≤ℤ pos m 
 size_from x m low high = omega (arith, int_sums)
 
 quotients_size : (x : ℤ) → (neg_ℤ (pos most_units) *ℤ pos 1000) ≤ℤ x → x ≤ℤ (pos most_units *ℤ pos 1000) →
-    IsOfForces 1 (ends (floor_of x (pos 1000)) (ceil_of x (pos 1000)))
+    IsOfTerms 1 (ends (floor_of x (pos 1000)) (ceil_of x (pos 1000)))
 quotients_size x low high =
     let d : pos 0 <ℤ pos 1000 = omega (arith, ints) in
     let floor = floor_of-is x (pos 1000) d in
@@ -61,7 +61,7 @@ ratio_from : (p n : ℤ) → unsigned_abs (p *ℤ n) < 2 ^ 126 → ratio_of (end
 unfolding ratio_of multiple_of
 ratio_from p n small = rw (small_of-ok (p *ℤ n) small, min_self (p *ℤ n)) refl
 
-pub units_of-ok : (p : ℤ) → IsIn LOAD p → (e : Ends) × (units_of p ≡ Ok e) × IsOfForces 1 e
+pub units_of-ok : (p : ℤ) → IsIn LOAD p → (e : Ends) × (units_of p ≡ Ok e) × IsOfTerms 1 e
 units_of-ok p range =
     let up : pos 0 ≤ℤ pos (2 ^ 40) = omega (arith, ints) in
     let low : (neg_ℤ (pos most_units) *ℤ pos 1000) ≤ℤ (p *ℤ pos (2 ^ 40)) = le_mul (pos (2 ^ 40)) up range.least in
@@ -70,14 +70,14 @@ units_of-ok p range =
     (part_ends (p *ℤ pos (2 ^ 40)), ratio_from p (pos (2 ^ 40)) small, quotients_size (p *ℤ pos (2 ^ 40)) low high)
 
 -- ---- sums
-pub IsOfForces-more : (n m : ℕ) (e : Ends) → n ≤ m → IsOfForces n e → IsOfForces m e
-IsOfForces-more n m e fewer size = record { lo_most = omega (arith, size.lo_most); hi_most = omega (arith, size.hi_most) }
+pub IsOfTerms-more : (n m : ℕ) (e : Ends) → n ≤ m → IsOfTerms n e → IsOfTerms m e
+IsOfTerms-more n m e fewer size = record { lo_most = omega (arith, size.lo_most); hi_most = omega (arith, size.hi_most) }
 
 pub add_of-ok : (a b : Ends) → unsigned_abs (a.lo +ℤ b.lo) < 2 ^ 126 → unsigned_abs (a.hi +ℤ b.hi) < 2 ^ 126 → add_of a b ≡ Ok (ends (a.lo +ℤ b.lo) (a.hi +ℤ b.hi))
 unfolding add_of
 add_of-ok a b lo hi = rw (small_of-ok (a.lo +ℤ b.lo) lo, small_of-ok (a.hi +ℤ b.hi) hi) refl
 
-pub add_of-room : (a b : Ends) → IsOfForces 4000 a → IsOfForces 1 b → add_of a b ≡ Ok (ends (a.lo +ℤ b.lo) (a.hi +ℤ b.hi))
+pub add_of-room : (a b : Ends) → IsOfTerms 4000 a → IsOfTerms 1 b → add_of a b ≡ Ok (ends (a.lo +ℤ b.lo) (a.hi +ℤ b.hi))
 add_of-room a b room one =
     add_of-ok a b (omega (arith, int_sums, room.lo_most, one.lo_most)) (omega (arith, int_sums, room.hi_most, one.hi_most))
 
@@ -89,7 +89,7 @@ ends_of (Err _) = nothing
 pub same_outcome : {a b : Ends} (r : Outcome) → r ≡ Ok a → r ≡ Ok b → a ≡ b
 same_outcome r first second = ap ends_of (sym first ∙ second)
 
-pub sum_size : (n : ℕ) (a b e : Ends) → IsOfForces 4000 a → IsOfForces n a → IsOfForces 1 b → add_of a b ≡ Ok e → IsOfForces (n + 1) e
+pub sum_size : (n : ℕ) (a b e : Ends) → IsOfTerms 4000 a → IsOfTerms n a → IsOfTerms 1 b → add_of a b ≡ Ok e → IsOfTerms (n + 1) e
 sum_size n a b e room size one sum =
     let is = same_outcome (add_of a b) sum (add_of-room a b room one) in
     rw is
@@ -99,7 +99,7 @@ sum_size n a b e room size one sum =
     })
 
 -- the sum of a part and what came before
-pub IsOk-sum : (a b : Ends) → IsOfForces 4000 a → IsOfForces 1 b → IsOk (add_of a b)
+pub IsOk-sum : (a b : Ends) → IsOfTerms 4000 a → IsOfTerms 1 b → IsOk (add_of a b)
 IsOk-sum a b room one = rw (add_of-room a b room one) refl
 
 -- ---- nothing more
@@ -110,6 +110,6 @@ pub units_of-zero : units_of (pos 0) ≡ Ok nothing
 unfolding ratio_of multiple_of floor_of ceil_of
 units_of-zero = refl
 
-pub add_of-nothing : (a : Ends) → IsOfForces 4000 a → add_of a nothing ≡ Ok a
+pub add_of-nothing : (a : Ends) → IsOfTerms 4000 a → add_of a nothing ≡ Ok a
 add_of-nothing a room =
     add_of-room a nothing room (record { lo_most = omega (arith, ints); hi_most = omega (arith, ints) }) ∙ rw (add_zero a.lo, add_zero a.hi) refl

@@ -1,4 +1,4 @@
--- The loads of a case: for each row the sum of the forces on it. Loads are in units of 2^-40 N or N m.
+-- The loads of a case: for each row the sum of its terms. Loads are in units of 2^-40 N or N m.
 use Rattle.std.specs.Prelude.{◌≡◌, ℕ, ◌*◌, ◌/◌, ◌%◌, ◌^◌, ◌<◌, ◌==◌, ◌&&◌, List, [], length, Result, Ok, IsOk, IsErr, is_err, ℤ, pos, ◌*ℤ◌, Bool, false, if◌then◌else◌}
 use Rattle.std.specs.List.{slice_index_or}
 use Rattle.int_laws.specs.Sums.{sum_below}
@@ -38,13 +38,37 @@ acts_on f case row = (f.case.0 == case) && (f.node.0 == row / 6)
 abbrev pub force_on : Lists → ℕ → ℕ → ℕ → ℤ
 force_on m case row t = let f = slice_index_or m.forces t no_force in if acts_on f case row then part_of f (row % 6) else pos 0
 
--- mN as units
-abbrev pub load_term : Lists → ℕ → ℕ → ℕ → Outcome
-load_term m case row t = ratio_of (point_of (force_on m case row t)) (pos (2 ^ 40)) (pos 1000)
+-- n mN in units of 2^-40 N
+abbrev pub in_units : ℤ → Fraction
+in_units n = record { num = pos (2 ^ 40) *ℤ n; den = pos 1000 }
 
--- the load of a row: the sum over the forces in order, below 2^66 in size
+-- ---- the terms of a row's load: of its forces in order, one for each force of the model
+
+-- a force's part on a row, mN as units
+abbrev pub force_term : Lists → ℕ → ℕ → ℕ → Outcome
+force_term m case row t = ratio_of (point_of (force_on m case row t)) (pos (2 ^ 40)) (pos 1000)
+
+-- how many terms a load has, the same on every row
+abbrev pub term_count : Lists → ℕ
+term_count m = length m.forces
+
+-- the terms of the load of a row
+abbrev pub row_terms : Lists → ℕ → ℕ → List Outcome
+row_terms m case row = listed (term_count m) (force_term m case row)
+
+-- what the exact terms up to the n-th add up to
+abbrev pub exact_sum : Lists → ℕ → ℕ → ℕ → Fraction
+exact_sum m case row n = in_units (sum_below n (force_on m case row))
+
+-- the sum of the first n terms, in order
+abbrev pub terms_sum : List Outcome → ℕ → Outcome
+terms_sum terms n = in_turn add_of nothing (λ t. slice_index_or terms t (Ok nothing)) n
+
+-- ---- the load of a row
+
+-- the sum of its terms, below 2^66 in size as a whole
 unfoldable pub row_load : Lists → ℕ → ℕ → Outcome
-row_load m case row = and_then (in_turn add_of nothing (load_term m case row) (length m.forces)) limited_force
+row_load m case row = and_then (terms_sum (row_terms m case row) (term_count m)) limited_force
 
 -- the loads of all rows, or the first row that has none within its limit
 abbrev pub loads_of : Lists → ℕ → Result (List Ends) ℕ
@@ -62,13 +86,13 @@ pub record IsFirstWideLoad (m : Lists) (case row : ℕ) : Type 0 where
   pub wide : IsErr (row_load m case row)
   pub before : (i : ℕ) → i < row → IsOk (row_load m case i)
 
--- the exact load of a row: all forces' parts, mN as units
-abbrev pub forces_load : Lists → ℕ → ℕ → Fraction
-forces_load m case row = record { num = pos (2 ^ 40) *ℤ sum_below (length m.forces) (force_on m case row); den = pos 1000 }
+-- the exact load of a row: all its terms, exact
+abbrev pub exact_row_load : Lists → ℕ → ℕ → Fraction
+exact_row_load m case row = exact_sum m case row (term_count m)
 
 -- each exact load lies in its interval
 abbrev pub EncloseLoads : Lists → ℕ → List Ends → Type 0
-EncloseLoads m case loads = (row : ℕ) → row < 6 * length m.nodes → Within (load_of loads row) (forces_load m case row)
+EncloseLoads m case loads = (row : ℕ) → row < 6 * length m.nodes → Within (load_of loads row) (exact_row_load m case row)
 
 -- nothing but forces acts in the case: no weight, no hanger load, no change of temperature, no pressure
 pub record HasForcesAlone (c : Case) : Type 0 where

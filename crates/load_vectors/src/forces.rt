@@ -5,8 +5,8 @@ ghost use Rattle.lists.specs.Results.{and_then};
 ghost use Rattle.member_set.specs.Interval.{limited_force};
 ghost use Rattle.member_set.specs.Members.{load_of};
 ghost use Rattle.model_types.specs.Ranges.{IsIn, ForceInForm};
-ghost use Rattle.load_vectors.specs.Loads.{AreLoads, EncloseLoads, HasForcesAlone, IsFirstWideLoad, case_at, part_of};
-ghost use Rattle.load_vectors.specs.Totals.{AreTotals, IsFirstOver, IsOfForces, in_units, units_of};
+ghost use Rattle.load_vectors.specs.Loads.{in_units, AreLoads, EncloseLoads, HasForcesAlone, IsFirstWideLoad, case_at, part_of};
+ghost use Rattle.load_vectors.specs.Totals.{AreSums, IsFirstOver, IsOfTerms, units_of};
 
 use crate::fault::LoadFault;
 use flex_interval::{Iv, IvFault, add, point, ratio};
@@ -35,8 +35,8 @@ pub fn loads(alloc: Global, m: &Model, case: CaseId) -> Result<Vec<Iv>, LoadFaul
 /// Adds one more force of the model, where it is one of the case, to the rows of its node.
 fn add_force(m: &Model, case: CaseId, number: usize, loads: &mut [Iv])
     requires in_range { number < length m.now.forces }
-    requires before { AreTotals m.now case.0 number loads.old }
-    ensures { AreTotals m.now case.0 (number + 1) loads.new }
+    requires before { AreSums m.now case.0 number loads.old }
+    ensures { AreSums m.now case.0 (number + 1) loads.new }
 {
     let force = m.forces()[number];
     if force.case.0 != case.0 {
@@ -68,10 +68,10 @@ fn part(force: &Force, freedom: usize) -> i64
 /// A sum of forces' parts, and one part more of so many mN or mN m.
 fn plus(total: Iv, part: i64) -> Iv
     requires part { IsIn LOAD part }
-    requires room { IsOfForces 4000 total }
+    requires room { IsOfTerms 4000 total }
     ensures value { and_then (units_of part) (add_of total) ≡ Ok result }
     ensures within { (sum : ℤ) → Within total (in_units sum) → Within result (in_units (sum +ℤ part)) }
-    ensures size { (n : ℕ) → IsOfForces n total → IsOfForces (n + 1) result }
+    ensures size { (n : ℕ) → IsOfTerms n total → IsOfTerms (n + 1) result }
 {
     add(total, units(part)).unwrap()
 }
@@ -81,7 +81,7 @@ fn units(part: i64) -> Iv
     requires { IsIn LOAD part }
     ensures value { units_of part ≡ Ok result }
     ensures within { Within result (in_units part) }
-    ensures size { IsOfForces 1 result }
+    ensures size { IsOfTerms 1 result }
 {
     ratio(point(part as i128), 1 << 40, 1000).unwrap()
 }

@@ -11,7 +11,7 @@ use Rattle.load_vectors.proofs.forces.add_force.Goals as goal
 pub returns-then-force-case : goal.returns-then-force-case
 returns-then-force-case c =
     let few = few_forces c.args.m.now c.args.number c.forces.ensures.model c.requires.in_range in
-    other_case c.args.m.now c.args.case.0 c.args.number _ c.args.loads.now few refl (rw c.forces.ensures.records at c.if-force-case.true) c.requires.before
+    other_case c.args.m.now c.args.case.0 c.args.number _ c.args.loads.now few c.requires.in_range refl (rw c.forces.ensures.records at c.if-force-case.true) c.requires.before
 
 pub loop-freedom-init : goal.loop-freedom-init
 loop-freedom-init c = adding-start _ _ _ _ _ c.requires.before
@@ -47,7 +47,7 @@ loop-freedom-preserved c =
     let more : IsMore (load_of c.loop-freedom.loads row) c.plus.result (part_of f i) =
     subst (λ (z : ℤ). IsMore (load_of c.loop-freedom.loads row) c.plus.result z) c.part.ensures.value
     (subst (λ (e : Ends). IsMore e c.plus.result c.part.result) read here) in
-    adding-next c.args.m.now c.args.case.0 c.args.number i f c.loop-freedom.loads c.plus.result is c.if-force-case.false kept.known.1.0 c.loop-freedom-test.true more c.loop-freedom.invariant
+    adding-next c.args.m.now c.args.case.0 c.args.number i f c.loop-freedom.loads c.plus.result c.requires.in_range is c.if-force-case.false kept.known.1.0 c.loop-freedom-test.true more c.loop-freedom.invariant
 
 pub returns : goal.returns
 returns c =
@@ -55,5 +55,5 @@ returns c =
     let is : f ≡ get_or c.args.m.now.forces c.args.number no_force = ap (λ (fs : List Force). get_or fs c.args.number no_force) c.forces.ensures.records in
     let few = few_forces c.args.m.now c.args.number c.forces.ensures.model c.requires.in_range in
     let done : c.loop-freedom.freedom ≡ 6 = omega (arith, c.loop-freedom-test.false, c.loop-freedom.auto.freedom-end) in
-    adding-end c.args.m.now c.args.case.0 c.args.number f c.loop-freedom.loads few is
+    adding-end c.args.m.now c.args.case.0 c.args.number f c.loop-freedom.loads few c.requires.in_range is
     (subst (λ (k : ℕ). AreAdding c.args.m.now c.args.case.0 c.args.number f.node.0 k c.loop-freedom.loads) done c.loop-freedom.invariant)

@@ -1,5 +1,5 @@
 use Rattle.std.proofs.Common.{sym, ◌∙◌, to_z-of_z}
-use Rattle.load_vectors.specs.Totals.{in_units}
+use Rattle.load_vectors.specs.Loads.{in_units}
 use Rattle.load_vectors.proofs.Sizes.{IsOk-sum, sum_size}
 use Rattle.load_vectors.proofs.TotalLemmas.{units_sum_within}
 use Rattle.load_vectors.proofs.forces.plus.Goals as goal
