@@ -1,5 +1,5 @@
 -- How many members a model has.
-use Rattle.std.proofs.Common.{◌≡◌, ℕ, ◌+◌, List, [], ◌∷◌, ◌++◌, length, refl, ap, ◌∙◌, arith, Ok, Err}
+use Rattle.std.proofs.Common.{◌≡◌, ℕ, ◌+◌, List, [], ◌∷◌, ◌++◌, length, refl, ap, ◌∙◌, arith, Ok, Err, true, false, if◌then◌else◌}
 use Rattle.std.proofs.lemmas.List.{length-append}
 use Rattle.std.proofs.lemmas.List.Sums.{sum_by-cons}
 use Rattle.std.specs.List.{flat_map}
@@ -7,8 +7,9 @@ use Rattle.member_set.specs.declared.members.Member.{Member}
 use Rattle.model_types.specs.MemberCounts.{restraint_member_count, restraints_member_count}
 use Rattle.model_types.specs.declared.records.Restraint.{Restraint}
 use Rattle.model_types.specs.declared.records.RestraintKind.{RestraintKind}
-use Rattle.model_types.specs.declared.records.RestraintKind.TheVariants.{Anchor, Linear, Twist}
-use Rattle.restraint_law.specs.Restraints.{kind_members, restraint_members}
+use Rattle.model_types.specs.declared.records.RestraintKind.TheVariants.{Anchor, Linear, Twist, Oneway, Gap, Hanger}
+use Rattle.restraint_law.specs.Directions.{towards, against}
+use Rattle.restraint_law.specs.Restraints.{translation_member, is_shut, kind_members, restraint_members}
 use Rattle.structure.specs.Elements.{element_member_count}
 use Rattle.structure.specs.Structure.{Members, ModelsHaveTheirMembers, element_members, model_members, then_members}
 use Rattle.structure.proofs.PlacedLaw.{elements-count}
@@ -25,6 +26,13 @@ pub kind_has : (node : ℕ) (kind : RestraintKind) → length (kind_members node
 kind_has node (Anchor kt kr) = refl
 kind_has node (Linear dx dy dz k) = refl
 kind_has node (Twist dx dy dz k) = refl
+kind_has node (Oneway dx dy dz gap k) = refl
+kind_has node (Gap dx dy dz gap k) =
+    elim (is_shut gap) as (λ t. length (if t then translation_member node k (towards dx dy dz) ∷ [] else translation_member node k (towards dx dy dz) ∷ translation_member node k (against dx dy dz) ∷ []) ≡ (if t then 1 else 2)) [
+      | true ↦ refl
+      | false ↦ refl
+    ]
+kind_has node (Hanger rate load) = refl
 
 restraints_have : (restraints : List Restraint) → length (flat_map restraint_members restraints) ≡ restraints_member_count restraints
 restraints_have [] = refl

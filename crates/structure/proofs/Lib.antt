@@ -1,4 +1,6 @@
 pub mod TouchingLemmas
+pub mod CurveLemmas
+pub mod BendLemmas
 pub mod MemberLemmas
 pub mod BuildingLemmas
 pub mod StiffLaw
@@ -8,3 +10,5 @@ pub mod CountLaw
 pub mod RestraintLaw
 pub mod LengthLemmas
 pub mod StationLemmas
+pub mod StateLaw
+pub mod Runs

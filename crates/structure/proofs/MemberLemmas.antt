@@ -1,5 +1,5 @@
 -- The members of a model's elements and restraints.
-use Rattle.std.proofs.Common.{◌≡◌, ℕ, zero, suc, ◌+◌, ◌^◌, ◌<◌, Bool, true, false, ◌&&◌, if◌then◌else◌, List, ◌++◌, length, get_or, All, inl, inr, refl, sym, ◌∙◌, ap, subst, arith, add-one, ℤ, pos, ◌<ℤ◌, Result, Ok, Err, Some, slice_get, unwrap_or}
+use Rattle.std.proofs.Common.{◌≡◌, ℕ, zero, suc, ◌+◌, ◌^◌, ◌<◌, ◌≤◌, Bool, true, false, ◌&&◌, if◌then◌else◌, List, ◌++◌, length, get_or, All, inl, inr, refl, sym, ◌∙◌, ap, subst, arith, add-one, ℤ, pos, ◌<ℤ◌, Result, Ok, Err, Some, slice_get, unwrap_or}
 use Rattle.std.proofs.lemmas.Int.{ints}
 use Rattle.std.proofs.lemmas.Option.{unwrap_or-slice_get}
 use Rattle.std.specs.List.{slice_index_or}
@@ -26,8 +26,10 @@ use Rattle.pipe_element.specs.Straight.{straight_of, limited, members_of as stra
 use Rattle.pipe_element.specs.declared.shapes.Shapes.{Shapes}
 use Rattle.pipe_element.specs.declared.stiffness.Stiffness.{Stiffness}
 use Rattle.model_types.specs.declared.records.Shape.{Shape}
-use Rattle.model_types.specs.declared.records.Shape.TheVariants.{Straight}
-use Rattle.structure.specs.Elements.{members_of_element, element_at, no_element, from_of, to_of, section_of, material_of}
+use Rattle.model_types.specs.declared.records.Shape.TheVariants.{Straight, Bend}
+use Rattle.structure.specs.Elements.{members_along, members_of_element, element_at, no_element, from_of, to_of, section_of, material_of}
+use Rattle.bend_element.specs.Between.{curve_from}
+use Rattle.structure.proofs.BendLemmas.{bend-own, or_wide-ok}
 use Rattle.structure.specs.Sound.{IsSound}
 use Rattle.structure.specs.Structure.{element_members}
 use Rattle.model_types.specs.MemberCounts.{shape_member_count}
@@ -77,11 +79,7 @@ members-sound m model n inside more own =
     let keeps : Keeps m (record_of.Element (element_at m n)) = model.kept.elements n no_element inside in
     λ k d here. sound (element_at m n) (length m.nodes) keeps.known.0 keeps.known.1.0 _ (own k d here)
 
--- ---- how many members a straight has
-
-pub or_wide-ok : {A B : Type 0} (r : Result A IvFault) (next : A → Result B Wide) (b : B) → or_wide r next ≡ Ok b → (a : A) × (next a ≡ Ok b)
-or_wide-ok (Ok a) next b is = (a, is)
-or_wide-ok (Err e) next b is = absurd (cc)
+-- ---- how many members an element has
 
 pub chosen : (t : Bool) (x y : List Member) (w : Wide) → ((if t then Ok x else Err w) ≡ Ok y) → x ≡ y
 chosen true x y w is = cc
@@ -100,10 +98,17 @@ straight-count e a b s m members is =
     let w = or_wide-ok (shapes_of way l.0) (limited e k.0) members k.1 in
     limited-count e k.0 w.0 members w.1
 
-pub shape-count : (s : Shape) → shape_member_count s ≡ 8
-shape-count Straight = refl
+pub shape-few : (s : Shape) → shape_member_count s ≤ 8
+shape-few Straight = omega arith
+shape-few (Bend r angle x y z) = omega arith
+
+along-count : (s : Shape) (e : Element) (a b : Node) (section : Section) (material : Material) (members : List Member) → members_along s e a b section material ≡ Ok members →
+    length members ≡ shape_member_count s
+along-count Straight e a b section material members is = straight-count e a b section material members is
+along-count (Bend r angle x y z) e a b section material members is =
+    (bend-own e (tube_of section material) section (way_of a b) (curve_from a r angle x y z) members is).count
 
 pub members-count : (m : Lists) (n : ℕ) (more : List Member) → members_of_element m (element_at m n) ≡ Ok more → length more ≡ shape_member_count (element_at m n).shape
 members-count m n more is =
     let e = element_at m n in
-    straight-count e (from_of m e) (to_of m e) (section_of m e) (material_of m (section_of m e)) more is ∙ sym (shape-count e.shape)
+    along-count e.shape e (from_of m e) (to_of m e) (section_of m e) (material_of m (section_of m e)) more is

@@ -1,9 +1,7 @@
--- Where the members of a restraint stand among those of a structure, what they hold there, and that none has states.
-use Rattle.std.proofs.Common.{◌≡◌, ℕ, zero, suc, ◌+◌, ◌<◌, ◌≤◌, List, [], ◌∷◌, ◌++◌, length, get_or, take, drop, All, refl, sym, ap, ap₂, ◌∙◌, subst, arith, map-id, Ok}
-use Rattle.std.specs.List.{flat_map, range_with_len}
+-- Where the members of a restraint stand among those of a structure, what they hold there, and their numbers.
+use Rattle.std.proofs.Common.{◌≡◌, ℕ, zero, suc, ◌+◌, ◌<◌, ◌≤◌, List, [], ◌∷◌, ◌++◌, length, get_or, take, drop, All, sym, ap, ◌∙◌, true, false, if◌then◌else◌, subst, arith, Ok}
+use Rattle.std.specs.List.{flat_map}
 use Rattle.std.proofs.Math.Seq.{take-append_seam, drop-append-add}
-use Rattle.std.proofs.lemmas.List.{flat_map_more}
-use Rattle.std.proofs.lemmas.List.FromFn.{map-range_with_len_more}
 use Rattle.std.proofs.lemmas.List.Sums.{sum_by-cons, sum_by_more}
 use Rattle.member_set.specs.declared.members.Member.{Member}
 use Rattle.member_set.specs.declared.members.Built.{Built}
@@ -11,13 +9,12 @@ use Rattle.model_types.specs.Lists.{Lists}
 use Rattle.model_types.specs.MemberCounts.{restraint_member_count, restraints_member_count}
 use Rattle.model_types.specs.declared.records.Restraint.{Restraint}
 use Rattle.model_types.specs.declared.records.RestraintKind.{RestraintKind}
-use Rattle.model_types.specs.declared.records.RestraintKind.TheVariants.{Anchor, Linear, Twist}
+use Rattle.model_types.specs.declared.records.RestraintKind.TheVariants.{Anchor, Linear, Twist, Oneway, Gap, Hanger}
 use Rattle.restraint_law.specs.Enclosures.{EnclosesRestraint}
-use Rattle.restraint_law.specs.Restraints.{restraint_members}
-use Rattle.restraint_law.specs.States.{state_numbers}
+use Rattle.restraint_law.specs.Restraints.{restraint_members, is_shut}
 use Rattle.structure.specs.Elements.{element_member_count}
 use Rattle.structure.specs.Enclosure.{HoldsRestraint, EnclosesRestraints}
-use Rattle.structure.specs.Restraints.{no_restraint, restraint_at, first_of_restraint, members_of_restraint, unilateral_of}
+use Rattle.structure.specs.Restraints.{no_restraint, restraint_at, first_of_restraint, members_of_restraint}
 use Rattle.structure.specs.Structure.{element_members, model_members, IsStructureOf}
 use Rattle.structure.proofs.CountLaw.{kind_has}
 use Rattle.structure.proofs.PlacedLaw.{elements-count}
@@ -61,35 +58,15 @@ pub encloses_restraints : (m : Lists) (b : Built) → IsStructureOf m b → All 
 encloses_restraints m b structure holds n inside =
     subst (EnclosesRestraint (restraint_at m n).kind) (sym (placed_restraint m b structure n inside)) (holds n no_restraint inside)
 
--- ---- states
-
-no_states : (first : ℕ) (kind : RestraintKind) → state_numbers first kind ≡ []
-no_states first (Anchor kt kr) = refl
-no_states first (Linear dx dy dz k) = refl
-no_states first (Twist dx dy dz k) = refl
-
-none_of : (m : Lists) (numbers : List ℕ) → flat_map (λ n. state_numbers (first_of_restraint m n) (restraint_at m n).kind) numbers ≡ []
-none_of m [] = refl
-none_of m (n ∷ numbers) =
-    ap₂ (λ (xs ys : List ℕ). xs ++ ys) (no_states (first_of_restraint m n) (restraint_at m n).kind) (none_of m numbers)
-
-pub all_linear : (m : Lists) → unilateral_of m ≡ []
-all_linear m = none_of m (range_with_len 0 (length m.restraints))
-
-range_more : (n : ℕ) → range_with_len 0 (n + 1) ≡ range_with_len 0 n ++ n ∷ []
-range_more n =
-    let step = map-range_with_len_more (λ (k : ℕ). k) 0 n n (omega arith) in
-    rw (map-id (range_with_len 0 (n + 1)), map-id (range_with_len 0 n)) at step
-
--- the lists of one more number
-pub flat_map_range_more : {X : Type 0} (f : ℕ → List X) (old : List X) (n : ℕ) →
-    (old ++ flat_map f (range_with_len 0 n)) ++ f n ≡ old ++ flat_map f (range_with_len 0 (n + 1))
-flat_map_range_more f old n = flat_map_more f old (range_with_len 0 n) n ∙ ap (λ (ns : List ℕ). old ++ flat_map f ns) (sym (range_more n))
+-- ---- numbers
 
 pub count_few : (kind : RestraintKind) → restraint_member_count kind ≤ 6
 count_few (Anchor kt kr) = omega arith
 count_few (Linear dx dy dz k) = omega arith
 count_few (Twist dx dy dz k) = omega arith
+count_few (Oneway dx dy dz gap k) = omega arith
+count_few (Gap dx dy dz gap k) = elim (is_shut gap) as (λ t. (if t then 1 else 2) ≤ 6) [ true ↦ omega arith | false ↦ omega arith ]
+count_few (Hanger rate load) = omega arith
 
 -- the first member of the next restraint
 pub first_more : (m : Lists) (n : ℕ) → n < length m.restraints → first_of_restraint m n + restraint_member_count (restraint_at m n).kind ≡ first_of_restraint m (n + 1)

@@ -1,19 +1,18 @@
--- An element that has members has a unit vector, and its ends are stations.
-use Rattle.std.proofs.Common.{◌≡◌, ℕ, zero, suc, ◌+◌, ◌*◌, ◌<◌, ◌≤◌, Bool, true, false, ◌++◌, List, [], ◌∷◌, length, get_or, All, refl, sym, subst, ap, ap₂, ◌∙◌, add-one, arith, slice_get, Some, None, Result, Ok, Err}
+-- An element that has members has unit vectors, and its ends are stations.
+use Rattle.std.proofs.Common.{◌≡◌, ℕ, zero, suc, ◌+◌, ◌*◌, ◌<◌, ◌≤◌, Bool, true, false, ◌++◌, List, [], ◌∷◌, length, get_or, All, refl, sym, subst, ap, ap₂, ◌∙◌, add-one, arith, ℤ, Option, Some, slice_get, Result, Ok, Err}
 use Rattle.std.specs.Prelude.{IsOk}
 use Rattle.std.proofs.lemmas.List.{get_or_read}
 use Rattle.std.proofs.lemmas.List.Elements.{All-from_recursion}
-use Rattle.std.specs.List.{flat_map}
+use Rattle.std.specs.List.{flat_map, slice_index_or}
 use Rattle.flex_interval.specs.Ends.{Ends}
 use Rattle.flex_interval.specs.Operations.{or_wide}
 use Rattle.flex_interval.specs.declared.fault.IvFault.{IvFault}
 use Rattle.flex_interval.specs.declared.fault.Wide.{Wide}
 use Rattle.lists.specs.Results.{and_then}
 use Rattle.flex_interval.specs.Fraction.{Fraction}
-use Rattle.member_pairs.specs.Lengths.{length_of, tangent_of, IsLengthWithin, tangent as exact_tangent}
-use Rattle.member_pairs.specs.Span.{IsLengthOf}
+use Rattle.member_pairs.specs.Lengths.{length_of, tangent_of, half_of, IsLengthWithin, tangent as exact_tangent}
 use Rattle.member_pairs.specs.Tubes.{tube_of}
-use Rattle.member_pairs.specs.Vectors.{EnclosesVector, way_of, parts_of}
+use Rattle.member_pairs.specs.Vectors.{EnclosesVector, way_of, parts_of, vector_of, cross_of, stretched_of, total_of, difference_of}
 use Rattle.member_pairs.specs.declared.way.Way.{Way}
 use Rattle.member_set.specs.declared.members.Member.{Member}
 use Rattle.member_set.specs.declared.members.Station.{Station}
@@ -24,15 +23,32 @@ use Rattle.model_types.specs.declared.records.Element.{Element}
 use Rattle.model_types.specs.declared.records.Material.{Material}
 use Rattle.model_types.specs.declared.records.Node.{Node}
 use Rattle.model_types.specs.declared.records.Section.{Section}
+use Rattle.model_types.specs.declared.records.Shape.{Shape}
+use Rattle.model_types.specs.declared.records.Shape.TheVariants.{Straight, Bend}
 use Rattle.pipe_element.specs.Rounded.{stiffness_of, shapes_of}
 use Rattle.pipe_element.specs.Straight.{straight_of, limited}
 use Rattle.pipe_element.specs.declared.shapes.Shapes.{Shapes}
 use Rattle.pipe_element.specs.declared.stiffness.Stiffness.{Stiffness}
-use Rattle.structure.specs.Elements.{members_of_element, element_at, no_element, no_node, from_of, to_of, section_of, material_of, span_of, member_count_below}
-use Rattle.structure.specs.Stations.{tangent_of_element, found_vector, station_of, HoldsTangent}
+use Rattle.angle_table.specs.HalfAngle.{cosine_of, sine_of}
+use Rattle.bend_element.specs.Between.{bend_of, curve_from, IsPlaceWithin}
+use Rattle.model_types.specs.Rules.{IsShapeSpan, Keeps}
+use Rattle.model_types.specs.declared.records.Record.TheVariants as record_of
+use Rattle.std.proofs.lemmas.Option.{slice_get-get_or}
+use Rattle.bend_element.specs.ExactBend.{ExactFrame}
+use Rattle.bend_element.specs.Normal.{normal_to, normal_parts, normal_length_of, normal_shift, unit_part_of, unit_parts_of, unit_normal_of, IsNormalLength}
+use Rattle.bend_element.specs.declared.normal.Normal.{Normal}
+use Rattle.bend_element.specs.Rounded.{frame_of}
+use Rattle.bend_element.specs.Vectors.{bend_vectors_of, vectors_in, AreWithinHalf, EnclosesVectors, place_by}
+use Rattle.bend_element.specs.declared.between.Curve.{Curve}
+use Rattle.bend_element.specs.declared.frame.Frame.{Frame}
+use Rattle.bend_element.specs.declared.vectors.BendVectors.{BendVectors}
+use Rattle.structure.specs.Elements.{members_along, members_of_element, element_at, no_element, no_section, from_of, to_of, section_of, material_of, member_count_below}
+use Rattle.structure.specs.Stations.{straight_vectors, vectors_of_bend, vectors_along, vectors_of_element, found_vectors, station_with, station_of, HoldsTangent, HoldsBendEnd, HoldsVectorsAlong, HoldsVectors}
+use Rattle.structure.specs.declared.vectors.EndVectors.{EndVectors}
 use Rattle.restraint_law.specs.Restraints.{restraint_members}
 use Rattle.structure.specs.Structure.{element_members, model_members}
-use Rattle.structure.proofs.MemberLemmas.{at_number, shape-count}
+use Rattle.structure.proofs.MemberLemmas.{at_number, shape-few}
+use Rattle.structure.proofs.LengthLemmas.{exact_length}
 use Rattle.structure.proofs.PlacedLaw.{placed}
 use Rattle.structure.proofs.StiffLaw.{then_members-ok}
 
@@ -42,9 +58,9 @@ or_wide-value : {A B : Type 0} (r : Result A IvFault) (next : A → Result B Wid
 or_wide-value (Ok a) next b is = (a, refl, is)
 or_wide-value (Err e) next b is = absurd (cc)
 
-and_then-value : {A B E : Type 0} (r : Result A E) (next : A → Result B E) (b : B) → and_then r next ≡ Ok b → (a : A) × (r ≡ Ok a)
-and_then-value (Ok a) next b is = (a, refl)
-and_then-value (Err e) next b is = absurd (cc)
+next_value : {A B E : Type 0} (r : Result A E) (next : A → Result B E) (b : B) → and_then r next ≡ Ok b → (a : A) × (r ≡ Ok a) × (next a ≡ Ok b)
+next_value (Ok a) next b is = (a, refl, is)
+next_value (Err e) next b is = absurd (cc)
 
 ok_value : {A E : Type 0} (r : Result A E) → IsOk r → (a : A) × (r ≡ Ok a)
 ok_value (Ok a) ok = (a, refl)
@@ -54,7 +70,7 @@ ok_value (Err e) ok = absurd (cc)
 
 shapes_tangent : (d : Way) (length : Ends) (w : Shapes) → shapes_of d length ≡ Ok w → (t : List Ends) × (tangent_of d length ≡ Ok t)
 unfolding shapes_of
-shapes_tangent d length w is = and_then-value (tangent_of d length) _ w is
+shapes_tangent d length w is = let t = next_value (tangent_of d length) _ w is in (t.0, t.1)
 
 straight_tangent : (e : Element) (a b : Node) (s : Section) (m : Material) (members : List Member) → straight_of e a b s m ≡ Ok members →
     (l : Ends) × (t : List Ends) × (length_of (parts_of (way_of a b)) ≡ Ok l) × (tangent_of (way_of a b) l ≡ Ok t)
@@ -68,65 +84,212 @@ straight_tangent e a b s m members is =
     let t = shapes_tangent way l.0 w.0 w.1 in
     (l.0, t.0, l.1, t.1)
 
-pub element_tangent : (m : Lists) (e : Element) → IsOk (members_of_element m e) →
-    (l : Ends) × (t : List Ends) × (length_of (span_of m e) ≡ Ok l) × (tangent_of (way_of (from_of m e) (to_of m e)) l ≡ Ok t)
-element_tangent m e ok =
-    let members = ok_value (members_of_element m e) ok in
-    straight_tangent e (from_of m e) (to_of m e) (section_of m e) (material_of m (section_of m e)) members.0 members.1
+-- a straight with members has unit vectors
+straight_made : (e : Element) (a b : Node) (s : Section) (m : Material) → IsOk (straight_of e a b s m) → IsOk (vectors_along Straight a b)
+straight_made e a b s m ok =
+    let members = ok_value (straight_of e a b s m) ok in
+    let own = straight_tangent e a b s m members.0 members.1 in
+    rw (own.2, own.3) refl
 
--- the way between the nodes of an element
-pub way_named : (m : Lists) (e : Element) (from to : Node) → slice_get m.nodes e.from.0 ≡ Some from → slice_get m.nodes e.to.0 ≡ Some to →
-    way_of from to ≡ way_of (from_of m e) (to_of m e)
-way_named m e from to is_from is_to =
-    ap₂ (λ (a b : Node). way_of a b) (at_number m.nodes e.from.0 from no_node is_from) (at_number m.nodes e.to.0 to no_node is_to)
-
-pub length_found : (m : Lists) (e : Element) (way : Way) (r : Outcome) → IsOk (members_of_element m e) → way ≡ way_of (from_of m e) (to_of m e) →
-    r ≡ length_of (parts_of way) → IsOk r
-length_found m e way r ok same is =
-    let own = element_tangent m e ok in
-    let found : r ≡ Ok own.0 = is ∙ ap (λ (w : Way). length_of (parts_of w)) same ∙ own.2 in
-    rw found refl
+straight_parts : (a b : Node) → IsOk (vectors_along Straight a b) →
+    (l : Ends) × (t : List Ends) × (length_of (parts_of (way_of a b)) ≡ Ok l) × (tangent_of (way_of a b) l ≡ Ok t)
+straight_parts a b ok =
+    let v = ok_value (vectors_along Straight a b) ok in
+    let l = next_value (length_of (parts_of (way_of a b))) _ v.0 v.1 in
+    let t = next_value (tangent_of (way_of a b) l.0) _ v.0 l.2 in
+    (l.0, t.0, l.1, t.1)
 
 abbrev outcome : Ends → Outcome
 outcome e = Ok e
 
--- the unit vector that was found is the element's
-pub tangent_found : (m : Lists) (e : Element) (way : Way) (length : Ends) (r : Result (List Ends) IvFault) → IsOk (members_of_element m e) → way ≡ way_of (from_of m e) (to_of m e) →
-    length_of (parts_of way) ≡ Ok length → r ≡ tangent_of way length → IsOk r × (tangent_of_element m e ≡ r)
-tangent_found m e way length r ok same long is =
-    let own = element_tangent m e ok in
+pub length_found : (a b : Node) (way : Way) (r : Outcome) → IsOk (vectors_along Straight a b) → way ≡ way_of a b → r ≡ length_of (parts_of way) → IsOk r
+length_found a b way r ok same is =
+    let own = straight_parts a b ok in
+    let found : r ≡ Ok own.0 = is ∙ ap (λ (w : Way). length_of (parts_of w)) same ∙ own.2 in
+    rw found refl
+
+-- the unit vector that was found is the straight's
+pub tangent_found : (a b : Node) (way : Way) (length : Ends) (r : Result (List Ends) IvFault) → IsOk (vectors_along Straight a b) → way ≡ way_of a b →
+    length_of (parts_of way) ≡ Ok length → r ≡ tangent_of way length → IsOk r × ((t : List Ends) → r ≡ Ok t → vectors_along Straight a b ≡ Ok (straight_vectors t))
+tangent_found a b way length r ok same long is =
+    let own = straight_parts a b ok in
     let lengths : outcome length ≡ outcome own.0 = sym long ∙ ap (λ (w : Way). length_of (parts_of w)) same ∙ own.2 in
     let l : length ≡ own.0 = cc in
-    let found : r ≡ Ok own.1 = is ∙ ap₂ (λ (w : Way) (x : Ends). tangent_of w x) same l ∙ own.3 in
-    let whole : tangent_of_element m e ≡ Ok own.1 = ap (λ (o : Outcome). and_then o (tangent_of (way_of (from_of m e) (to_of m e)))) own.2 ∙ own.3 in
-    (rw found refl, whole ∙ sym found)
+    let found : r ≡ tangent_of (way_of a b) own.0 = is ∙ ap₂ (λ (w : Way) (x : Ends). tangent_of w x) same l in
+    let some : r ≡ Ok own.1 = found ∙ own.3 in
+    (rw some refl, λ t value. let here : tangent_of (way_of a b) own.0 ≡ Ok t = sym found ∙ value in rw (own.2, here) refl)
+
+-- ---- an element's station
+
+pub straight_end : (m : Lists) (n : ℕ) (end : Bool) (way : Way) (t : List Ends) → ((l : Fraction) → IsLengthWithin (parts_of way) l → EnclosesVector t (exact_tangent (parts_of way) l)) →
+    HoldsTangent way (station_with m n end (straight_vectors t))
+straight_end m n false way t along = record { along = along; exact = exact_length (parts_of way) }
+straight_end m n true way t along = record { along = along; exact = exact_length (parts_of way) }
+
+abbrev answered : {A : Type 0} → A → Result A IvFault
+answered a = Ok a
+
+same_normal_of_frame : (f g : Frame) → answered f ≡ Ok g → g.normal ≡ f.normal
+same_normal_of_frame f g is = let same : f ≡ g = cc in ap (λ (x : Frame). x.normal) (sym same)
+
+same_normal : (u v : BendVectors) → answered u ≡ Ok v → v.normal ≡ u.normal
+same_normal u v is = let same : u ≡ v = cc in ap (λ (x : BendVectors). x.normal) (sym same)
+
+frame_normal : (way : Way) (normal : List Ends) (frame : Frame) → frame_of way normal ≡ Ok frame → frame.normal ≡ normal
+unfolding frame_of
+frame_normal way normal frame is =
+    let length = next_value (length_of (parts_of way)) _ frame is in
+    let chord = next_value (tangent_of way length.0) _ frame length.2 in
+    let half = next_value (half_of length.0) _ frame chord.2 in
+    let side = next_value (cross_of normal chord.0) _ frame half.2 in
+    same_normal_of_frame _ frame side.2
+
+vectors_normal : (frame : Frame) (cos sin : Ends) (v : BendVectors) → vectors_in frame cos sin ≡ Ok v → v.normal ≡ frame.normal
+unfolding vectors_in
+vectors_normal frame cos sin v is =
+    let along = next_value (stretched_of cos frame.chord) _ v is in
+    let outwards = next_value (stretched_of sin frame.side) _ v along.2 in
+    let from = next_value (total_of along.0 outwards.0) _ v outwards.2 in
+    let to = next_value (difference_of along.0 outwards.0) _ v from.2 in
+    same_normal _ v to.2
+
+-- the normal among a bend's vectors is that across its plane
+normal_is : (way : Way) (c : Curve) (v : BendVectors) → bend_vectors_of way c ≡ Ok v → unit_normal_of (normal_to way c.corner) ≡ Ok v.normal
+unfolding bend_vectors_of
+normal_is way c v is =
+    let normal = next_value (unit_normal_of (normal_to way c.corner)) _ v is in
+    let frame = next_value (frame_of way normal.0) _ v normal.2 in
+    let cos = next_value (cosine_of c.angle) _ v frame.2 in
+    let sin = next_value (sine_of c.angle) _ v cos.2 in
+    let same : v.normal ≡ normal.0 = vectors_normal frame.0 cos.0 sin.0 v sin.2 ∙ frame_normal way normal.0 frame.0 frame.1 in
+    rw same normal.1
+
+-- it has three parts, whatever would stand for a missing one
+same_three : (x y z : Ends) (v : List Ends) → answered (vector_of x y z) ≡ Ok v → (a b d : Ends) → (slice_index_or v 0 a ∷ slice_index_or v 1 b ∷ slice_index_or v 2 d ∷ []) ≡ v
+same_three x y z v is a b d =
+    let same : vector_of x y z ≡ v = cc in
+    subst (λ (u : List Ends). (slice_index_or u 0 a ∷ slice_index_or u 1 b ∷ slice_index_or u 2 d ∷ []) ≡ u) same refl
+
+parts_three : (n : Normal) (shift : ℕ) (length : Ends) (v : List Ends) → unit_parts_of n shift length ≡ Ok v → (a b d : Ends) →
+    (slice_index_or v 0 a ∷ slice_index_or v 1 b ∷ slice_index_or v 2 d ∷ []) ≡ v
+unfolding unit_parts_of
+parts_three n shift length v is a b d =
+    let x = next_value (unit_part_of n.x shift length) _ v is in
+    let y = next_value (unit_part_of n.y shift length) _ v x.2 in
+    let z = next_value (unit_part_of n.z shift length) _ v y.2 in
+    same_three x.0 y.0 z.0 v z.2 a b d
+
+pub normal_three : (way : Way) (c : Curve) (v : BendVectors) → bend_vectors_of way c ≡ Ok v → (a b d : Ends) →
+    (slice_index_or v.normal 0 a ∷ slice_index_or v.normal 1 b ∷ slice_index_or v.normal 2 d ∷ []) ≡ v.normal
+unfolding unit_normal_of
+normal_three way c v is a b d =
+    let n = normal_to way c.corner in
+    let length = next_value (normal_length_of (normal_parts n)) _ v.normal (normal_is way c v is) in
+    parts_three n (normal_shift (normal_parts n)) length.0 v.normal length.2 a b d
+
+normal_held : (way : Way) (c : Curve) (v : BendVectors) → bend_vectors_of way c ≡ Ok v → (place : ExactFrame) → IsPlaceWithin way c.corner place → EnclosesVector v.normal place.normal
+normal_held way c v is place within =
+    let own = normal_is way c v is in
+    let frame = rw own at within in
+    frame.normal
+
+pub bend_end : (m : Lists) (n : ℕ) (end : Bool) (way : Way) (c : Curve) (v : BendVectors) → bend_vectors_of way c ≡ Ok v →
+    ((place : ExactFrame) (cos sin : Fraction) → IsPlaceWithin way c.corner place → AreWithinHalf c.angle cos sin → EnclosesVectors v place cos sin) →
+    ((chord across : Fraction) → IsLengthWithin (parts_of way) chord → IsNormalLength (normal_parts (normal_to way c.corner)) across → IsPlaceWithin way c.corner (place_by way c.corner chord across)) →
+    HoldsBendEnd way c (station_with m n end (vectors_of_bend v))
+bend_end m n false way c v is within exact =
+    record {
+      along = λ place cos sin here half. (within place cos sin here half).from;
+      across = normal_held way c v is;
+      exact = λ chord across long normal. exact chord across (exact_length (parts_of way) chord long) normal;
+    }
+bend_end m n true way c v is within exact =
+    record {
+      along = λ place cos sin here half. (within place cos sin here half).to;
+      across = normal_held way c v is;
+      exact = λ chord across long normal. exact chord across (exact_length (parts_of way) chord long) normal;
+    }
+
+-- ---- by the shape of an element of a model, whose nodes are these
+
+pub kept_shape : (m : Lists) (e : Element) (a b : Node) → Keeps m (record_of.Element e) → slice_get m.nodes e.from.0 ≡ Some a → slice_get m.nodes e.to.0 ≡ Some b →
+    IsShapeSpan a b (section_of m e) e.shape
+kept_shape m e a b keeps from to = keeps.own.shape a b (section_of m e) from to (slice_get-get_or m.sections e.section.0 no_section keeps.known.1.1.0)
+
+pub straight_ok : (m : Lists) (e : Element) (a b : Node) → e.shape ≡ Straight → a ≡ from_of m e → b ≡ to_of m e → IsOk (members_of_element m e) → IsOk (vectors_along Straight a b)
+straight_ok m e a b shape from to ok =
+    let members : IsOk (straight_of e (from_of m e) (to_of m e) (section_of m e) (material_of m (section_of m e))) =
+    subst (λ (s : Shape). IsOk (members_along s e (from_of m e) (to_of m e) (section_of m e) (material_of m (section_of m e)))) shape ok in
+    let made = straight_made e (from_of m e) (to_of m e) (section_of m e) (material_of m (section_of m e)) members in
+    subst (λ (x : Node). IsOk (vectors_along Straight x b)) (sym from) (subst (λ (y : Node). IsOk (vectors_along Straight (from_of m e) y)) (sym to) made)
+
+pub bend_ok : (m : Lists) (e : Element) (a b : Node) (r : ℤ) (angle : ℕ) (x y z : ℤ) → e.shape ≡ Bend r angle x y z → a ≡ from_of m e → b ≡ to_of m e → IsOk (members_of_element m e) →
+    IsOk (bend_of e (tube_of (section_of m e) (material_of m (section_of m e))) (section_of m e) (way_of a b) (curve_from a r angle x y z))
+bend_ok m e a b r angle x y z shape from to ok =
+    let section = section_of m e in
+    let material = material_of m (section_of m e) in
+    let members : IsOk (members_along (Bend r angle x y z) e (from_of m e) (to_of m e) section material) =
+    subst (λ (s : Shape). IsOk (members_along s e (from_of m e) (to_of m e) section material)) shape ok in
+    subst (λ (u : Node). IsOk (members_along (Bend r angle x y z) e u b section material)) (sym from)
+    (subst (λ (v : Node). IsOk (members_along (Bend r angle x y z) e (from_of m e) v section material)) (sym to) members)
+
+pub straight_value : (m : Lists) (e : Element) (a b : Node) (v : EndVectors) → e.shape ≡ Straight → a ≡ from_of m e → b ≡ to_of m e → vectors_along Straight a b ≡ Ok v →
+    vectors_of_element m e ≡ Ok v
+straight_value m e a b v shape from to is = ap (λ (s : Shape). vectors_along s (from_of m e) (to_of m e)) shape ∙ ap₂ (λ (x y : Node). vectors_along Straight x y) (sym from) (sym to) ∙ is
+
+abbrev ends_answered : EndVectors → Result EndVectors IvFault
+ends_answered v = Ok v
+
+pub bend_value : (m : Lists) (e : Element) (a b : Node) (r : ℤ) (angle : ℕ) (x y z : ℤ) (v : BendVectors) → e.shape ≡ Bend r angle x y z → a ≡ from_of m e → b ≡ to_of m e →
+    bend_vectors_of (way_of a b) (curve_from a r angle x y z) ≡ Ok v → vectors_of_element m e ≡ Ok (vectors_of_bend v)
+bend_value m e a b r angle x y z v shape from to is =
+    ap (λ (s : Shape). vectors_along s (from_of m e) (to_of m e)) shape ∙ ap₂ (λ (u w : Node). vectors_along (Bend r angle x y z) u w) (sym from) (sym to)
+    ∙ ap (λ (o : Result BendVectors IvFault). and_then o (λ (u : BendVectors). ends_answered (vectors_of_bend u))) is
+
+pub straight_holds : (m : Lists) (e : Element) (a b : Node) (s : Station) → e.shape ≡ Straight → a ≡ from_of m e → b ≡ to_of m e → HoldsTangent (way_of a b) s →
+    HoldsVectorsAlong e.shape (from_of m e) (to_of m e) s
+straight_holds m e a b s shape from to holds =
+    let here : HoldsVectorsAlong Straight (from_of m e) (to_of m e) s =
+    subst (λ (x : Node). HoldsVectorsAlong Straight x (to_of m e) s) from (subst (λ (y : Node). HoldsVectorsAlong Straight a y s) to holds) in
+    subst (λ (t : Shape). HoldsVectorsAlong t (from_of m e) (to_of m e) s) (sym shape) here
+
+pub bend_holds : (m : Lists) (e : Element) (a b : Node) (r : ℤ) (angle : ℕ) (x y z : ℤ) (s : Station) → e.shape ≡ Bend r angle x y z → a ≡ from_of m e → b ≡ to_of m e →
+    HoldsBendEnd (way_of a b) (curve_from a r angle x y z) s → HoldsVectorsAlong e.shape (from_of m e) (to_of m e) s
+bend_holds m e a b r angle x y z s shape from to holds =
+    let bend = Bend r angle x y z in
+    let here : HoldsVectorsAlong bend (from_of m e) (to_of m e) s =
+    subst (λ (u : Node). HoldsVectorsAlong bend u (to_of m e) s) from (subst (λ (v : Node). HoldsVectorsAlong bend a v s) to holds) in
+    subst (λ (t : Shape). HoldsVectorsAlong t (from_of m e) (to_of m e) s) (sym shape) here
+
+abbrev pub with_normal : BendVectors → List Ends → EndVectors
+with_normal v normal = record { from = v.from; to = v.to; normal = Some normal }
 
 -- ---- the stations at the ends of an element
 
-abbrev station : ℕ → Bool → List Ends → ℕ → ℕ → Station
-station n end t first count = record { element = n; end = end; tangent = t; normal = None; first = first; count = count }
+abbrev station : ℕ → Bool → List Ends → Option (List Ends) → ℕ → ℕ → Station
+station n end t normal first count = record { element = n; end = end; tangent = t; normal = normal; first = first; count = count }
 
-abbrev both_ends : ℕ → List Ends → ℕ → ℕ → List Station
-both_ends n t first count = station n false t first count ∷ station n true t first count ∷ []
+abbrev both_ends : ℕ → EndVectors → ℕ → ℕ → List Station
+both_ends n v first count = station n false v.from v.normal first count ∷ station n true v.to v.normal first count ∷ []
 
-pub ends_are : (m : Lists) (n first count : ℕ) (t : List Ends) (e : Element) → e ≡ element_at m n → tangent_of_element m e ≡ Ok t →
-    first ≡ member_count_below m n → count ≡ shape_member_count e.shape → both_ends n t first count ≡ (station_of m n false ∷ station_of m n true ∷ [])
-ends_are m n first count t e at value before own =
-    let found = found_vector (tangent_of_element m (element_at m n)) in
-    let tangent : t ≡ found_vector (tangent_of_element m (element_at m n)) =
-    ap found_vector (sym value) ∙ ap (λ (x : Element). found_vector (tangent_of_element m x)) at in
-    ap (λ (x : List Ends). both_ends n x first count) tangent
-    ∙ ap (λ (k : ℕ). both_ends n found k count) before
-    ∙ ap (λ (k : ℕ). both_ends n found (member_count_below m n) k) (own ∙ ap (λ (x : Element). shape_member_count x.shape) at)
+ends_with : (m : Lists) (n first count : ℕ) (v : EndVectors) (e : Element) → e ≡ element_at m n → first ≡ member_count_below m n → count ≡ shape_member_count e.shape →
+    both_ends n v first count ≡ (station_with m n false v ∷ station_with m n true v ∷ [])
+ends_with m n first count v e at before own =
+    ap (λ (k : ℕ). both_ends n v k count) before
+    ∙ ap (λ (k : ℕ). both_ends n v (member_count_below m n) k) (own ∙ ap (λ (x : Element). shape_member_count x.shape) at)
 
-pub ends_hold : (m : Lists) (n first count : ℕ) (t : List Ends) (e : Element) → e ≡ element_at m n →
-    ((l : Fraction) → IsLengthWithin (span_of m e) l → EnclosesVector t (exact_tangent (span_of m e) l)) →
-    ((l : Fraction) → IsLengthOf (span_of m e) l → IsLengthWithin (span_of m e) l) → All (HoldsTangent m) (both_ends n t first count)
-ends_hold m n first count t e at along exact =
-    let here = rw at at along in
-    let true_length = rw at at exact in
-    All-from_recursion (HoldsTangent m) (both_ends n t first count)
-    (record { along = here; exact = true_length }, (record { along = here; exact = true_length }, tt))
+pub ends_are : (m : Lists) (n first count : ℕ) (v : EndVectors) (e : Element) → e ≡ element_at m n → vectors_of_element m e ≡ Ok v →
+    first ≡ member_count_below m n → count ≡ shape_member_count e.shape → both_ends n v first count ≡ (station_of m n false ∷ station_of m n true ∷ [])
+ends_are m n first count v e at value before own =
+    let found : v ≡ found_vectors (vectors_of_element m (element_at m n)) = ap found_vectors (sym value) ∙ ap (λ (x : Element). found_vectors (vectors_of_element m x)) at in
+    ends_with m n first count v e at before own ∙ ap (λ (x : EndVectors). station_with m n false x ∷ station_with m n true x ∷ []) found
+
+pub ends_hold : (m : Lists) (n first count : ℕ) (v : EndVectors) (e : Element) → e ≡ element_at m n → first ≡ member_count_below m n → count ≡ shape_member_count e.shape →
+    ((n : ℕ) (end : Bool) → HoldsVectorsAlong e.shape (from_of m e) (to_of m e) (station_with m n end v)) → All (HoldsVectors m) (both_ends n v first count)
+ends_hold m n first count v e at before own holds =
+    let here = rw at at holds in
+    subst (All (HoldsVectors m)) (sym (ends_with m n first count v e at before own))
+    (All-from_recursion (HoldsVectors m) (station_with m n false v ∷ station_with m n true v ∷ []) (here n false, (here n true, tt)))
 
 -- ---- a model
 
@@ -140,7 +303,7 @@ count_more m n = rw (add-one n) refl
 
 pub member_count_few : (m : Lists) (n : ℕ) → member_count_below m n ≤ 8 * n
 member_count_few m zero = omega arith
-member_count_few m (suc n) = omega (arith, shape-count (element_at m n).shape, member_count_few m n)
+member_count_few m (suc n) = omega (arith, shape-few (element_at m n).shape, member_count_few m n)
 
 -- each element of a model that has members has its own
 pub each_ok : (m : Lists) (members : List Member) → model_members m ≡ Ok members → (n : ℕ) → n < length m.elements → IsOk (members_of_element m (element_at m n))
@@ -148,4 +311,4 @@ unfolding model_members
 each_ok m members is n inside =
     let step = then_members-ok (element_members m (length m.elements)) (λ members. Ok (members ++ flat_map restraint_members m.restraints)) members is in
     let own = placed m (length m.elements) step.0 step.1 n inside in
-    rw own.1 refl
+    rw own.4 refl

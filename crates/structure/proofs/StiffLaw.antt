@@ -13,6 +13,9 @@ use Rattle.model_types.specs.declared.records.Element.{Element}
 use Rattle.model_types.specs.declared.records.Material.{Material}
 use Rattle.model_types.specs.declared.records.Node.{Node}
 use Rattle.model_types.specs.declared.records.Section.{Section}
+use Rattle.model_types.specs.declared.records.Shape.{Shape}
+use Rattle.model_types.specs.declared.records.Shape.TheVariants.{Straight, Bend}
+use Rattle.bend_element.specs.Between.{curve_from}
 use Rattle.member_pairs.specs.Lengths.{length_of}
 use Rattle.member_pairs.specs.Limits.{is_stiffness}
 use Rattle.member_pairs.specs.Tubes.{tube_of}
@@ -23,11 +26,12 @@ use Rattle.pipe_element.specs.Straight.{straight_of, limited, members_of as stra
 use Rattle.pipe_element.specs.declared.shapes.Shapes.{Shapes}
 use Rattle.pipe_element.specs.declared.stiffness.Stiffness.{Stiffness}
 use Rattle.restraint_law.specs.Restraints.{restraint_members}
-use Rattle.structure.specs.Elements.{members_of_element, element_at, from_of, to_of, section_of, material_of}
+use Rattle.structure.specs.Elements.{members_along, members_of_element, element_at, from_of, to_of, section_of, material_of}
 use Rattle.structure.specs.Sound.{IsSound}
 use Rattle.structure.specs.Structure.{Members, with_element, then_members, element_members, model_members, StructuresAreStiff}
 use Rattle.structure.proofs.BuildingLemmas.{restraints-sound}
-use Rattle.structure.proofs.MemberLemmas.{or_wide-ok, chosen}
+use Rattle.structure.proofs.BendLemmas.{bend-own, or_wide-ok}
+use Rattle.structure.proofs.MemberLemmas.{chosen}
 
 -- the member's stiffness is in its limits
 abbrev pub HasStiffness : Member → Type 0
@@ -71,6 +75,13 @@ straight-stiff e a b s m members is =
     let w = or_wide-ok (shapes_of way l.0) (limited e k.0) members k.1 in
     limited-stiff e k.0 w.0 members w.1
 
+along-stiff : (s : Shape) (e : Element) (a b : Node) (section : Section) (material : Material) (members : List Member) → members_along s e a b section material ≡ Ok members →
+    All HasStiffness members
+along-stiff Straight e a b section material members is = straight-stiff e a b section material members is
+along-stiff (Bend r angle x y z) e a b section material members is =
+    let six = bend-own e (tube_of section material) section (way_of a b) (curve_from a r angle x y z) members is in
+    λ k d inside. let own = six.own k d inside in record { at_least = own.low; below = omega (arith, ints, own.high) }
+
 -- ---- a model's
 
 pub then_members-ok : (r : Members) (next : List Member → Members) (members : List Member) → then_members r next ≡ Ok members →
@@ -93,7 +104,7 @@ elements-stiff m (suc n) members is =
     let own = with_element-ok n (members_of_element m (element_at m n)) step.0 members step.2 in
     subst (All HasStiffness) own.2
     (All-append HasStiffness step.0 own.0 (elements-stiff m n step.0 step.1)
-    (straight-stiff e (from_of m e) (to_of m e) (section_of m e) (material_of m (section_of m e)) own.0 own.1))
+    (along-stiff e.shape e (from_of m e) (to_of m e) (section_of m e) (material_of m (section_of m e)) own.0 own.1))
 
 sound-stiff : (nodes : ℕ) (members : List Member) → All (IsSound nodes) members → All HasStiffness members
 sound-stiff nodes members sound = λ k d inside. record { at_least = (sound k d inside).low; below = (sound k d inside).high }

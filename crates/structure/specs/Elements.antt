@@ -6,14 +6,14 @@ use Rattle.member_set.specs.declared.members.Member.{Member}
 use Rattle.model_types.specs.Lists.{Lists}
 use Rattle.model_types.specs.MemberCounts.{shape_member_count}
 use Rattle.model_types.specs.declared.records.Element.{Element}
-use Rattle.model_types.specs.declared.records.Shape.TheVariants.{Straight}
+use Rattle.model_types.specs.declared.records.Shape.{Shape}
+use Rattle.model_types.specs.declared.records.Shape.TheVariants.{Straight, Bend}
 use Rattle.model_types.specs.declared.records.Material.{Material}
 use Rattle.model_types.specs.declared.records.Node.{Node}
 use Rattle.model_types.specs.declared.records.Section.{Section}
-use Rattle.member_pairs.specs.Span.{Span}
 use Rattle.member_pairs.specs.Tubes.{tube_of}
-use Rattle.member_pairs.specs.Vectors.{way_of, parts_of}
-use Rattle.member_pairs.specs.declared.tube.Tube.{Tube}
+use Rattle.member_pairs.specs.Vectors.{way_of}
+use Rattle.bend_element.specs.Between.{bend_of, curve_from}
 use Rattle.pipe_element.specs.Straight.{straight_of}
 
 -- what stands for a record that isn't there
@@ -46,17 +46,14 @@ section_of m e = slice_index_or m.sections e.section.0 no_section
 abbrev pub material_of : Lists → Section → Material
 material_of m s = slice_index_or m.materials s.material.0 no_material
 
--- an element's round tube
-abbrev pub tube_of_element : Lists → Element → Tube
-tube_of_element m e = tube_of (section_of m e) (material_of m (section_of m e))
-
--- the way from its first node to its second
-abbrev pub span_of : Lists → Element → Span
-span_of m e = parts_of (way_of (from_of m e) (to_of m e))
+-- the members of an element of a shape: the eight of a straight, or the six of a bend
+abbrev pub members_along : Shape → Element → Node → Node → Section → Material → Result (List Member) Wide
+members_along Straight e from to s m = straight_of e from to s m
+members_along (Bend r angle x y z) e from to s m = bend_of e (tube_of s m) s (way_of from to) (curve_from from r angle x y z)
 
 -- its members, unless they leave their limits
 abbrev pub members_of_element : Lists → Element → Result (List Member) Wide
-members_of_element m e = straight_of e (from_of m e) (to_of m e) (section_of m e) (material_of m (section_of m e))
+members_of_element m e = members_along e.shape e (from_of m e) (to_of m e) (section_of m e) (material_of m (section_of m e))
 
 -- how many members the first n elements have
 abbrev pub member_count_below : Lists → ℕ → ℕ

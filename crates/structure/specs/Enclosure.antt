@@ -1,37 +1,67 @@
--- That the members of an element, and those of a structure, enclose the exact straights and restraints.
-use Rattle.std.specs.Prelude.{ℕ, ◌+◌, ◌<◌, length, IfOk}
+-- That the members of an element, and those of a structure, enclose the exact pipes and restraints.
+use Rattle.std.specs.Prelude.{ℕ, ◌<◌, List, length, take, drop, IfOk}
 use Rattle.angle_table.specs.Pi.{pi_ends}
 use Rattle.flex_interval.specs.Fraction.{Fraction, Within}
 use Rattle.member_set.specs.declared.members.Built.{Built}
-use Rattle.member_set.specs.Members.{member_of}
+use Rattle.member_set.specs.declared.members.Member.{Member}
 use Rattle.model_types.specs.Lists.{Lists}
+use Rattle.model_types.specs.MemberCounts.{shape_member_count}
 use Rattle.model_types.specs.declared.records.Element.{Element}
+use Rattle.model_types.specs.declared.records.Material.{Material}
+use Rattle.model_types.specs.declared.records.Node.{Node}
 use Rattle.model_types.specs.declared.records.Restraint.{Restraint}
+use Rattle.model_types.specs.declared.records.Section.{Section}
+use Rattle.model_types.specs.declared.records.Shape.{Shape}
+use Rattle.model_types.specs.declared.records.Shape.TheVariants.{Straight, Bend}
 use Rattle.member_pairs.specs.Lengths.{IsLengthWithin}
-use Rattle.member_pairs.specs.Pairs.{EnclosesMember}
-use Rattle.pipe_element.specs.ExactStraight.{Mode, stiffness_of, shape_of}
-use Rattle.pipe_element.specs.Straight.{EnclosesStraight, mode_number}
+use Rattle.member_pairs.specs.Tubes.{tube_of}
+use Rattle.member_pairs.specs.Vectors.{way_of, parts_of}
+use Rattle.member_pairs.specs.declared.way.Way.{Way}
+use Rattle.bend_element.specs.Arcs.{ExactArc}
+use Rattle.bend_element.specs.Bend.{EnclosesBend}
+use Rattle.bend_element.specs.Between.{curve_from, IsArcWithin, IsExactArc, IsPlaceWithin, SomeWithin}
+use Rattle.bend_element.specs.ExactBend.{ExactFrame}
+use Rattle.bend_element.specs.declared.between.Curve.{Curve}
+use Rattle.pipe_element.specs.Straight.{EnclosesStraight}
 use Rattle.restraint_law.specs.Enclosures.{EnclosesRestraint}
 use Rattle.restraint_law.specs.Restraints.{restraint_members}
-use Rattle.structure.specs.Elements.{members_of_element, element_at, span_of, tube_of_element, member_count_below}
+use Rattle.structure.specs.Elements.{members_of_element, element_at, from_of, to_of, section_of, material_of, member_count_below}
 use Rattle.structure.specs.Restraints.{restraint_at, members_of_restraint}
 
--- where an element has members, each of them holds its exact stiffness and shape vector, for every pi and every length
--- within their enclosures
+-- the members of a bend hold its exact stiffnesses and shape vectors, for every pi, arc and place within their enclosures; there are
+-- such ones, and an arc of the exact half angle and flexibility factor is one
+pub record HoldsBend (s : Section) (m : Material) (way : Way) (c : Curve) (members : List Member) : Type 0 where
+  pub within : (x : ExactArc) (place : ExactFrame) (pi : Fraction) → IsArcWithin s c x → IsPlaceWithin way c.corner place → Within pi_ends pi →
+      EnclosesBend members (tube_of s m) x place pi
+  pub exact : (x : ExactArc) (pi : Fraction) → Within pi_ends pi → IsExactArc s c pi x → IsArcWithin s c x
+  pub some : SomeWithin s way c
+
+-- the members of an element of a shape hold its exact stiffnesses and shape vectors: those of a straight for every pi and every
+-- length within their enclosures
+abbrev pub HoldsAlong : Shape → Node → Node → Section → Material → List Member → Type 0
+HoldsAlong Straight from to s m members =
+    (pi l : Fraction) → Within pi_ends pi → IsLengthWithin (parts_of (way_of from to)) l → EnclosesStraight members (tube_of s m) (parts_of (way_of from to)) pi l
+HoldsAlong (Bend r angle x y z) from to s m members = HoldsBend s m (way_of from to) (curve_from from r angle x y z) members
+
+-- the same of an element of a model
+abbrev pub HoldsElement : Lists → Element → List Member → Type 0
+HoldsElement m e = HoldsAlong e.shape (from_of m e) (to_of m e) (section_of m e) (material_of m (section_of m e))
+
+-- where an element has members, they hold its exact stiffnesses and shape vectors
 abbrev pub EnclosesElement : Lists → Element → Type 0
-EnclosesElement m e =
-    IfOk (members_of_element m e) (λ members. (pi l : Fraction) → Within pi_ends pi → IsLengthWithin (span_of m e) l → EnclosesStraight members (tube_of_element m e) (span_of m e) pi l)
+EnclosesElement m e = IfOk (members_of_element m e) (HoldsElement m e)
 
 -- the same of each element of a model
 abbrev pub EachEncloses : Lists → Type 0
 EachEncloses m = (n : ℕ) → n < length m.elements → EnclosesElement m (element_at m n)
 
--- in a structure the members from the first of an element on, behind those of the elements before it, hold the exact
--- stiffnesses and shape vectors of the element, for every pi and every length within their enclosures
+-- the members of the element of that number in a structure, behind those of the elements before it
+abbrev pub members_at : Lists → Built → ℕ → List Member
+members_at m b n = take (shape_member_count (element_at m n).shape) (drop (member_count_below m n) b.members)
+
+-- in a structure the members of each element hold its exact stiffnesses and shape vectors
 abbrev pub EnclosesElements : Lists → Built → Type 0
-EnclosesElements m b = (n : ℕ) (pi l : Fraction) (mode : Mode) → n < length m.elements → Within pi_ends pi → IsLengthWithin (span_of m (element_at m n)) l →
-    EnclosesMember (member_of b (member_count_below m n + mode_number mode))
-    (stiffness_of (tube_of_element m (element_at m n)) (span_of m (element_at m n)) pi l mode) (shape_of (span_of m (element_at m n)) l mode)
+EnclosesElements m b = (n : ℕ) → n < length m.elements → HoldsElement m (element_at m n) (members_at m b n)
 
 -- the members of a restraint hold what it holds
 abbrev pub HoldsRestraint : Restraint → Type 0

@@ -6,3 +6,4 @@ pub mod Structure
 pub mod Sound
 pub mod Touching
 pub mod Numbers
+pub mod Laws

@@ -1,52 +1,114 @@
 -- The stations of a model: the two ends of each of its elements.
-use Rattle.std.specs.Prelude.{ℕ, Bool, false, true, List, [], ◌∷◌, length, All, None, Result, Ok, Err}
+use Rattle.std.specs.Prelude.{ℕ, Bool, false, true, List, [], ◌∷◌, length, All, Option, None, Some, Result, Ok, Err}
 use Rattle.std.specs.List.{flat_map, range_with_len}
 use Rattle.flex_interval.specs.Ends.{Ends}
 use Rattle.flex_interval.specs.Fraction.{Fraction}
 use Rattle.flex_interval.specs.declared.fault.IvFault.{IvFault}
 use Rattle.lists.specs.Results.{and_then}
+use Rattle.member_pairs.specs.Axes.{End, from_end, to_end}
 use Rattle.member_pairs.specs.Lengths.{length_of, tangent_of, tangent, IsLengthWithin}
 use Rattle.member_pairs.specs.Span.{IsLengthOf}
-use Rattle.member_pairs.specs.Vectors.{EnclosesVector, way_of, zero_vector}
+use Rattle.member_pairs.specs.Vectors.{Exact, EnclosesVector, way_of, parts_of, zero_vector}
+use Rattle.member_pairs.specs.declared.way.Way.{Way}
 use Rattle.member_set.specs.declared.members.Built.{Built}
 use Rattle.member_set.specs.declared.members.Station.{Station}
 use Rattle.model_types.specs.Lists.{Lists}
 use Rattle.model_types.specs.MemberCounts.{shape_member_count}
 use Rattle.model_types.specs.declared.records.Element.{Element}
-use Rattle.structure.specs.Elements.{element_at, from_of, to_of, span_of, member_count_below}
+use Rattle.model_types.specs.declared.records.Node.{Node}
+use Rattle.model_types.specs.declared.records.Shape.{Shape}
+use Rattle.model_types.specs.declared.records.Shape.TheVariants.{Straight, Bend}
+use Rattle.bend_element.specs.Between.{curve_from, IsPlaceWithin}
+use Rattle.bend_element.specs.ExactBend.{ExactFrame}
+use Rattle.bend_element.specs.Normal.{normal_to, normal_parts, IsNormalLength}
+use Rattle.bend_element.specs.Vectors.{bend_vectors_of, end_tangent, AreWithinHalf, place_by}
+use Rattle.bend_element.specs.declared.between.Curve.{Curve}
+use Rattle.bend_element.specs.declared.vectors.BendVectors.{BendVectors}
+use Rattle.structure.specs.Elements.{element_at, from_of, to_of, member_count_below}
+use Rattle.structure.specs.declared.vectors.EndVectors.{EndVectors}
 
--- the unit vector from an element's first node to its second, in 2^-56, unless its length or a part of it leaves the limits
-abbrev pub tangent_of_element : Lists → Element → Result (List Ends) IvFault
-tangent_of_element m e = and_then (length_of (span_of m e)) (tangent_of (way_of (from_of m e) (to_of m e)))
+-- ---- rounded
 
--- a vector that was found; that of nothing where there is none
-abbrev pub found_vector : Result (List Ends) IvFault → List Ends
-found_vector (Ok v) = v
-found_vector (Err _) = zero_vector
+-- a straight has one unit vector at both its ends, and none across it
+abbrev pub straight_vectors : List Ends → EndVectors
+straight_vectors t = record { from = t; to = t; normal = None }
 
--- the station of an element's end, `to` where `end` is true: no element has a normal, which bends and tees have
-abbrev pub station_of : Lists → ℕ → Bool → Station
-station_of m n end =
+abbrev pub vectors_of_bend : BendVectors → EndVectors
+vectors_of_bend v = record { from = v.from; to = v.to; normal = Some v.normal }
+
+-- the unit vectors of an element of a shape, in 2^-56: along it at its ends, and across the plane of a bend
+abbrev pub vectors_along : Shape → Node → Node → Result EndVectors IvFault
+vectors_along Straight from to =
+    and_then (length_of (parts_of (way_of from to))) (λ length. and_then (tangent_of (way_of from to) length) (λ t. Ok (straight_vectors t)))
+vectors_along (Bend r angle x y z) from to = and_then (bend_vectors_of (way_of from to) (curve_from from r angle x y z)) (λ v. Ok (vectors_of_bend v))
+
+abbrev pub vectors_of_element : Lists → Element → Result EndVectors IvFault
+vectors_of_element m e = vectors_along e.shape (from_of m e) (to_of m e)
+
+-- vectors that were found; those of nothing where there are none
+abbrev pub found_vectors : Result EndVectors IvFault → EndVectors
+found_vectors (Ok v) = v
+found_vectors (Err _) = straight_vectors zero_vector
+
+-- the vector along an element at its end, `to` where that is true
+abbrev pub tangent_at : EndVectors → Bool → List Ends
+tangent_at v false = v.from
+tangent_at v true = v.to
+
+-- the station at an end of an element with these unit vectors
+abbrev pub station_with : Lists → ℕ → Bool → EndVectors → Station
+station_with m n end v =
     record {
       element = n;
       end = end;
-      tangent = found_vector (tangent_of_element m (element_at m n));
-      normal = None;
+      tangent = tangent_at v end;
+      normal = v.normal;
       first = member_count_below m n;
       count = shape_member_count (element_at m n).shape;
     }
+
+-- the station of an element's end: only a bend has a normal
+abbrev pub station_of : Lists → ℕ → Bool → Station
+station_of m n end = station_with m n end (found_vectors (vectors_of_element m (element_at m n)))
 
 -- the two ends of the elements in order, `from` before `to`
 abbrev pub stations_of : Lists → List Station
 stations_of m = flat_map (λ n. station_of m n false ∷ station_of m n true ∷ []) (range_with_len 0 (length m.elements))
 
--- a station's unit vector holds the exact one along its element by every length within the enclosure of the element's length,
--- where the exact one is
-pub record HoldsTangent (m : Lists) (s : Station) : Type 0 where
-  pub along : (l : Fraction) → IsLengthWithin (span_of m (element_at m s.element)) l →
-      EnclosesVector s.tangent (tangent (span_of m (element_at m s.element)) l)
-  pub exact : (l : Fraction) → IsLengthOf (span_of m (element_at m s.element)) l → IsLengthWithin (span_of m (element_at m s.element)) l
+-- ---- what they hold
+
+-- a straight's station holds the exact unit vector along it by every length within the enclosure of its length, where the exact
+-- one is
+pub record HoldsTangent (way : Way) (s : Station) : Type 0 where
+  pub along : (l : Fraction) → IsLengthWithin (parts_of way) l → EnclosesVector s.tangent (tangent (parts_of way) l)
+  pub exact : (l : Fraction) → IsLengthOf (parts_of way) l → IsLengthWithin (parts_of way) l
+
+-- a normal is there, and holds this one
+abbrev pub HoldsNormal : Option (List Ends) → Exact → Type 0
+HoldsNormal (Some normal) exact = EnclosesVector normal exact
+HoldsNormal None exact = ⊥
+
+abbrev pub end_of : Bool → End
+end_of false = from_end
+end_of true = to_end
+
+-- a bend's station holds the exact unit vectors along it at this end and across its plane, for every place, cosine and sine
+-- within their enclosures, where the exact place is
+pub record HoldsBendEnd (way : Way) (c : Curve) (s : Station) : Type 0 where
+  pub along : (place : ExactFrame) (cos sin : Fraction) → IsPlaceWithin way c.corner place → AreWithinHalf c.angle cos sin →
+      EnclosesVector s.tangent (end_tangent place cos sin (end_of s.end))
+  pub across : (place : ExactFrame) → IsPlaceWithin way c.corner place → HoldsNormal s.normal place.normal
+  pub exact : (chord across : Fraction) → IsLengthOf (parts_of way) chord → IsNormalLength (normal_parts (normal_to way c.corner)) across →
+      IsPlaceWithin way c.corner (place_by way c.corner chord across)
+
+-- the same by the element's shape
+abbrev pub HoldsVectorsAlong : Shape → Node → Node → Station → Type 0
+HoldsVectorsAlong Straight from to s = HoldsTangent (way_of from to) s
+HoldsVectorsAlong (Bend r angle x y z) from to s = HoldsBendEnd (way_of from to) (curve_from from r angle x y z) s
+
+abbrev pub HoldsVectors : Lists → Station → Type 0
+HoldsVectors m s = HoldsVectorsAlong (element_at m s.element).shape (from_of m (element_at m s.element)) (to_of m (element_at m s.element)) s
 
 -- the same of each station of a structure
 abbrev pub HoldTangents : Lists → Built → Type 0
-HoldTangents m b = All (HoldsTangent m) b.stations
+HoldTangents m b = All (HoldsVectors m) b.stations

@@ -1,4 +1,4 @@
-ghost use Rattle.std.specs.Prelude.{◌≡◌, IfOk, Err, ℕ, [], All};
+ghost use Rattle.std.specs.Prelude.{◌≡◌, IfOk, Err, ℕ, All};
 ghost use Rattle.structure.specs.Enclosure.{EachEncloses, EnclosesElements, EnclosesRestraints, HoldsRestraint};
 ghost use Rattle.structure.specs.Stations.{HoldTangents};
 ghost use Rattle.structure.specs.Sound.{AreMembers};
@@ -22,9 +22,6 @@ pub fn build(alloc: Global, m: &Model) -> Result<Built, BuildFault>
     ensures encloses { IfOk result (EnclosesElements m.now) }
     ensures holds { IfOk result (EnclosesRestraints m.now) }
     ensures tangents { IfOk result (HoldTangents m.now) }
-
-    // No kind of restraint has a member with states yet.
-    ensures linear { IfOk result (λ b. b.unilateral ≡ []) }
     ensures wide { (id : ElementId) → result ≡ Err (BuildFault.Wide id) → model_members m.now ≡ Err id.0 }
 {
     let members = model_members(alloc, m)?;

@@ -1,3 +1,4 @@
+ghost use Rattle.structure.specs.Laws.{StructuresHaveStates};
 ghost use Rattle.structure.specs.Numbers.{StructuresHoldNumbers};
 ghost use Rattle.structure.specs.Structure.{ModelsHaveTheirMembers, StructuresAreStiff};
 
@@ -15,4 +16,9 @@ pub fn structures_are_stiff()
 /// that holds a number.
 pub fn structures_hold_numbers()
     ensures { StructuresHoldNumbers }
+{}
+
+/// The members of a structure that have states are those that hold one way, whatever the initial deformations of a case are.
+pub fn structures_have_states()
+    ensures { StructuresHaveStates }
 {}

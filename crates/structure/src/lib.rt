@@ -8,8 +8,13 @@ mod laws;
 mod restraints;
 mod stations;
 mod touching;
+mod vectors;
 
 pub use building::build;
 pub use elements::{element_member_count, element_members};
 pub use fault::BuildFault;
-pub use laws::{models_have_their_members, structures_are_stiff, structures_hold_numbers};
+pub use laws::{
+    models_have_their_members, structures_are_stiff, structures_have_states,
+    structures_hold_numbers,
+};
+pub use restraints::has_no_contacts;

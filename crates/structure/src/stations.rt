@@ -1,24 +1,17 @@
-ghost use Rattle.std.specs.Prelude.{◌≡◌, ◌<◌, ◌∷◌, [], false, true, length, All, IfOk, IsOk, ℕ, Ok, Bool};
-ghost use Rattle.flex_interval.specs.Fraction.{Fraction};
-ghost use Rattle.member_pairs.specs.Lengths.{IsLengthWithin, tangent};
-ghost use Rattle.member_pairs.specs.Span.{IsLengthOf};
-ghost use Rattle.member_pairs.specs.Vectors.{EnclosesVector};
-ghost use Rattle.model_types.specs.Rules.{Keeps};
-ghost use Rattle.model_types.specs.declared.records.Record.TheVariants as record_of;
-ghost use Rattle.structure.specs.Elements.{element_at, member_count_below, members_of_element, span_of};
-ghost use Rattle.structure.specs.Stations.{HoldsTangent, station_of, stations_of, tangent_of_element};
+ghost use Rattle.std.specs.Prelude.{◌≡◌, ◌<◌, ◌∷◌, [], false, true, length, All, IfOk, IsOk, ℕ};
+ghost use Rattle.structure.specs.Elements.{element_at, member_count_below, members_of_element};
+ghost use Rattle.structure.specs.Stations.{HoldsVectors, station_of, stations_of};
 
-use flex_interval::Iv;
-use member_pairs::{length, tangent, way_between};
+use crate::vectors::{EndVectors, end_vectors};
 use member_set::Station;
-use model_types::{Element, Model};
+use model_types::Model;
 use std::alloc::{AllocError, Global};
 
 /// The stations of a model whose elements have members: for each element in order the end `from`, then `to`.
 pub fn stations(alloc: Global, m: &Model) -> Result<Vec<Station>, AllocError>
     requires { (n : ℕ) → n < length m.now.elements → IsOk (members_of_element m.now (element_at m.now n)) }
     ensures value { IfOk result (λ stations. stations.items ≡ stations_of m.now) }
-    ensures holds { IfOk result (λ stations. All (HoldsTangent m.now) stations.items) }
+    ensures holds { IfOk result (λ stations. All (HoldsVectors m.now) stations.items) }
 {
     let elements = m.elements();
     let mut stations = Vec::new(alloc);
@@ -36,33 +29,30 @@ fn ends(m: &Model, number: usize, first: usize) -> [Station; 2]
     requires members { IsOk (members_of_element m.now (element_at m.now number)) }
     requires first { first ≡ member_count_below m.now number }
     ensures value { result ≡ station_of m.now number false ∷ station_of m.now number true ∷ [] }
-    ensures holds { All (HoldsTangent m.now) result }
+    ensures holds { All (HoldsVectors m.now) result }
 {
     let element = &m.elements()[number];
-    let tangent = tangent_of(m, element);
-    let from = Station {
-        element: number as u32,
-        end: false,
-        tangent,
-        normal: None,
-        first: first as u32,
-        count: element.shape.member_count() as u32,
+    let vectors = end_vectors(m, element);
+    let count = element.shape.member_count();
+    let from = from_station(&vectors, number as u32, first as u32, count as u32);
+    let to = Station {
+        end: true,
+        tangent: vectors.to,
+        ..from
     };
-    let to = Station { end: true, ..from };
     [from, to]
 }
 
-/// The unit vector along an element that has members, in units of 2^-56.
-fn tangent_of(m: &Model, e: &Element) -> [Iv; 3]
-    requires keeps { Keeps m.now (record_of.Element e.now) }
-    requires members { IsOk (members_of_element m.now e.now) }
-    ensures value { tangent_of_element m.now e.now ≡ Ok result }
-    ensures along { (l : Fraction) → IsLengthWithin (span_of m.now e.now) l → EnclosesVector result (tangent (span_of m.now e.now) l) }
-
-    // The exact length lies within its enclosure.
-    ensures exact { (l : Fraction) → IsLengthOf (span_of m.now e.now) l → IsLengthWithin (span_of m.now e.now) l }
+/// The station at the first end of an element with these unit vectors.
+fn from_station(vectors: &EndVectors, element: u32, first: u32, count: u32) -> Station
+    ensures { result ≡ (record { element = element; end = false; tangent = vectors.now.from; normal = vectors.now.normal; first = first; count = count }) }
 {
-    let way = way_between(m.node(e.from), m.node(e.to));
-    let length = length(&way).unwrap();
-    tangent(&way, length).unwrap()
+    Station {
+        element,
+        end: false,
+        tangent: vectors.from,
+        normal: vectors.normal,
+        first,
+        count,
+    }
 }

@@ -4,9 +4,10 @@ use Rattle.structure.specs.Sound.{AreMembers}
 use Rattle.structure.specs.declared.fault.BuildFault.TheVariants as faults
 use Rattle.structure.proofs.BuildingLemmas.{IsStructureOf-from, nodes_in_range, stiff}
 use Rattle.structure.proofs.PlacedLaw.{encloses_elements}
-use Rattle.structure.specs.Stations.{HoldsTangent}
+use Rattle.structure.specs.Stations.{HoldsVectors}
 use Rattle.structure.proofs.StationLemmas.{each_ok}
-use Rattle.structure.proofs.RestraintLaw.{all_linear, encloses_restraints}
+use Rattle.structure.proofs.RestraintLaw.{encloses_restraints}
+use Rattle.structure.proofs.StateLaw.{numbers_run}
 use Rattle.structure.proofs.building.build.Goals as goal
 
 pub returns-in_err-members-clause-wide : goal.returns-in_err-members-clause-wide
@@ -27,7 +28,7 @@ returns-clause-structure c =
     let are = subst (AreMembers c.args.m.now) (sym c.new.ensures) c.in_ok-members.ensures.members in
     let count = ap (λ (xs : List (List ℕ)). length xs) c.new-4.ensures ∙ c.in_ok-at.ensures.count ∙ ap length c.nodes.ensures.records in
     let lists = rw (← c.new-4.ensures, c.deref.ensures.value, ← c.new.ensures) at c.in_ok-at.ensures.lists in
-    IsStructureOf-from c.args.m.now _ c.nodes.ensures.model are count lists (c.new-2.ensures ∙ c.in_ok-unilateral.ensures) (c.new-2.ensures ∙ c.in_ok-unilateral.ensures ∙ all_linear c.args.m.now) (c.new-3.ensures ∙ c.in_ok-stations.ensures.value)
+    IsStructureOf-from c.args.m.now _ c.nodes.ensures.model are count lists (c.new-2.ensures ∙ c.in_ok-unilateral.ensures) (numbers_run c.args.m.now _ are.value) (c.new-3.ensures ∙ c.in_ok-stations.ensures.value)
 
 pub returns-clause-stiff : goal.returns-clause-stiff
 returns-clause-stiff c =
@@ -40,11 +41,8 @@ returns-clause-encloses c = encloses_elements c.args.m.now _ (returns-clause-str
 pub returns-clause-holds : goal.returns-clause-holds
 returns-clause-holds c = encloses_restraints c.args.m.now _ (returns-clause-structure c) c.in_ok-members.ensures.holds
 
-pub returns-clause-linear : goal.returns-clause-linear
-returns-clause-linear c = c.new-2.ensures ∙ c.in_ok-unilateral.ensures ∙ all_linear c.args.m.now
-
 pub stations-requires : goal.stations-requires
 stations-requires c = each_ok c.args.m.now c.in_ok-members.members.items c.in_ok-members.ensures.members.value
 
 pub returns-clause-tangents : goal.returns-clause-tangents
-returns-clause-tangents c = subst (All (HoldsTangent c.args.m.now)) (sym c.new-3.ensures) c.in_ok-stations.ensures.holds
+returns-clause-tangents c = subst (All (HoldsVectors c.args.m.now)) (sym c.new-3.ensures) c.in_ok-stations.ensures.holds

@@ -1,6 +1,6 @@
 use Rattle.std.proofs.Common.{◌+◌, ◌++◌, replicate, ℕ, List, ap, ◌∙◌}
 use Rattle.restraint_law.specs.States.{state_count_of}
-use Rattle.structure.proofs.RestraintLaw.{flat_map_range_more}
+use Rattle.structure.proofs.Runs.{flat_map_range_more}
 use Rattle.structure.proofs.restraints.push_state_numbers.Goals as goal
 
 pub loop-part-preserved : goal.loop-part-preserved

@@ -5,7 +5,8 @@ use Rattle.model_types.specs.declared.records.Restraint.{Restraint}
 use Rattle.model_types.specs.MemberCounts.{restraint_member_count}
 use Rattle.restraint_law.specs.States.{state_numbers}
 use Rattle.structure.specs.Restraints.{no_restraint, restraint_at, first_of_restraint}
-use Rattle.structure.proofs.RestraintLaw.{flat_map_range_more, count_few, first_more}
+use Rattle.structure.proofs.RestraintLaw.{count_few, first_more}
+use Rattle.structure.proofs.Runs.{flat_map_range_more}
 use Rattle.structure.proofs.restraints.unilateral.Goals as goal
 
 pub loop-number-preserved : goal.loop-number-preserved

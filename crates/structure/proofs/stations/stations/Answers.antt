@@ -5,8 +5,8 @@ use Rattle.member_set.specs.declared.members.Station.{Station}
 use Rattle.model_types.specs.MemberCounts.{shape_member_count}
 use Rattle.model_types.specs.declared.records.Element.{Element}
 use Rattle.structure.specs.Elements.{element_at}
-use Rattle.structure.specs.Stations.{station_of, HoldsTangent}
-use Rattle.structure.proofs.RestraintLaw.{flat_map_range_more}
+use Rattle.structure.specs.Stations.{station_of, HoldsVectors}
+use Rattle.structure.proofs.Runs.{flat_map_range_more}
 use Rattle.structure.proofs.StationLemmas.{element_read, count_more}
 use Rattle.structure.proofs.stations.stations.Goals as goal
 
@@ -28,5 +28,5 @@ loop-number-preserved c =
           ∙ flat_map_range_more both [] n;
       first = omega (arith, count_more m n, c.loop-number.invariant.first, own);
       few = omega (arith, c.loop-number.invariant.few, c.member_count-first.ensures.few);
-      holds = subst (All (HoldsTangent m)) (sym items) (All-append (HoldsTangent m) c.loop-number.stations.items c.ends.result c.loop-number.invariant.holds c.ends.ensures.holds);
+      holds = subst (All (HoldsVectors m)) (sym items) (All-append (HoldsVectors m) c.loop-number.stations.items c.ends.result c.loop-number.invariant.holds c.ends.ensures.holds);
     }
