@@ -1,5 +1,5 @@
 -- What the enclosure of an entry holds, by its definition.
-use Rattle.std.proofs.Common.{◌≡◌, Option, Some, None, ℕ, zero, suc, ◌+◌, ◌/◌, ◌<◌, ◌≤◌, ◌^◌, ◌⊎◌, inl, inr, Bool, true, false, refl, sym, subst, ap, ◌∙◌, arith, List, length, slice_index, Ok, Err, ℤ, pos, ◌+ℤ◌, ◌*ℤ◌, ◌<ℤ◌, unsigned_abs, if◌then◌else◌}
+use Rattle.std.proofs.Common.{◌≡◌, Option, Some, None, ℕ, zero, suc, ◌+◌, ◌/◌, ◌<◌, ◌≤◌, ◌^◌, ◌⊎◌, inl, inr, Bool, true, false, refl, sym, subst, ◌∙◌, arith, List, length, slice_index, Ok, Err, ℤ, pos, ◌+ℤ◌, ◌*ℤ◌, ◌<ℤ◌, unsigned_abs, if◌then◌else◌}
 use Rattle.std.specs.Prelude.{is_err, nat_lt}
 use Rattle.int_laws.specs.Sums.{sum_below}
 use Rattle.int_laws.proofs.Sums.{int_sums}
@@ -20,25 +20,19 @@ use Rattle.member_set.specs.Members.{IsBuilt, nothing, shape_at, member_of, memb
 use Rattle.member_set.specs.Realisation.{Stiffness, IsStiffnessOf, fraction, every_member, exact_entry, entry_unit}
 use Rattle.member_set.specs.Interval.{Outcome, found, in_turn}
 use Rattle.member_set.specs.Inclusion.{NumbersAreInRange, NodesSuffice}
-use Rattle.assembly.specs.Stiffness.{member_entry, entry_term, entry_sum, limited_entry, upper_entry, stiffness_at, middle, radius, is_wide, wide_row, IsWithinRadius}
-use Rattle.assembly.specs.Inclusion.{MatricesHold}
+use Rattle.member_set.specs.States.{under, stiffness_under, StaysBuilt, HasStiffnessUnder}
+use Rattle.assembly.specs.Stiffness.{entry_term, entry_sum, limited_entry, upper_entry, stiffness_at, middle, radius, is_wide, wide_row, IsWithinRadius}
+use Rattle.assembly.specs.Inclusion.{MatricesHold, AssembledHold}
 use Rattle.assembly.proofs.Fractions.{product_within, plus_within, nothing_within}
 use Rattle.assembly.proofs.Kept.{near_of}
 use Rattle.assembly.proofs.Outside.{untouched}
+use Rattle.assembly.proofs.Walks.{ok, first_of}
 use Rattle.assembly.proofs.Whole.{upper_is, lower_is, exact_symmetric}
-
--- an answer of two steps has one of the first
-first_of : (o : Outcome) (next : Ends → Outcome) (e : Ends) → and_then o next ≡ Ok e → (x : Ends) × (o ≡ Ok x) × (next x ≡ Ok e)
-first_of (Ok x) next e is = (x, refl, is)
-first_of (Err f) next e is = absurd (cc)
-
-abbrev answered : Ends → Outcome
-answered e = Ok e
 
 -- what a member gives to an entry
 member_entry_at : ProductHolds → (t : Bool) (m : Member) (row col : ℕ) (e : Ends) (q stiffness first second : ℤ) → touches m (col / 6) ≡ t → pos 0 <ℤ q →
     Within m.kappa (fraction stiffness q) → Within (shape_at m row) (fraction first q) → Within (shape_at m col) (fraction second q) →
-    (if t then and_then (mul_of m.kappa (shape_at m row) 56) (λ e. mul_of e (shape_at m col) 56) else answered nothing) ≡ Ok e →
+    (if t then and_then (mul_of m.kappa (shape_at m row) 56) (λ e. mul_of e (shape_at m col) 56) else ok nothing) ≡ Ok e →
     Within e (fraction (first *ℤ (stiffness *ℤ second)) (entry_unit q))
 member_entry_at products true m row col e q stiffness first second touching positive kappa_within first_within second_within is =
     let step = first_of (mul_of m.kappa (shape_at m row) 56) (λ e. mul_of e (shape_at m col) 56) e is in
@@ -67,7 +61,7 @@ entry_turns sums products in_range b laws s row col (suc n) e built real inside 
     refl real.positive member.stiffness_within (member.shape_within row) (member.shape_within col) term.1 in
     plus_within e total.0 term.0 s.denominator _ _ real.positive before here (λ v w in_v in_w. sums total.0 term.0 e v w term.2 in_v in_w)
 
-limited_by : (t : Bool) (x e : Ends) → (if t then answered x else Err Wide) ≡ Ok e → x ≡ e
+limited_by : (t : Bool) (x e : Ends) → (if t then ok x else Err Wide) ≡ Ok e → x ≡ e
 limited_by true x e is = cc
 limited_by false x e is = absurd (cc)
 
@@ -123,3 +117,12 @@ matrices_hold sums products in_range by_node b laws s middles radii built real g
     let are = not_wide (wide_row b) (middle b, radius b) (middles, radii) given in
     subst (λ (pair : Entries × Entries). IsWithinRadius (entry_unit s.denominator) (exact_entry every_member s i j) (pair.0 i j) (pair.1 i j)) are.1
     (enclosure_holds sums products in_range by_node b laws s i j (found (stiffness_at b i j)) built real i_inside j_inside (enclosure_there b i j are.0 i_inside j_inside))
+
+-- ---- the assembled matrices
+
+pub assembled_hold : SumHolds → ProductHolds → NumbersAreInRange → NodesSuffice → StaysBuilt → HasStiffnessUnder → AssembledHold
+assembled_hold sums products in_range by_node stays has b closed laws s middles radii built real are i j i_inside j_inside =
+    let part = has b laws closed s real in
+    let one = are.entries i j i_inside j_inside in
+    rw (← part.1 i j, one.middle_is, one.radius_is)
+    (enclosure_holds sums products in_range by_node (under b closed) laws (stiffness_under b closed s) i j one.enclosure (stays b closed built) part.0 i_inside j_inside one.value)

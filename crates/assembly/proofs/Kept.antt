@@ -9,9 +9,8 @@ use Rattle.int_laws.specs.Division.{IsFloor}
 use Rattle.flex_interval.specs.Ends.{Ends}
 use Rattle.flex_interval.specs.Fraction.{Within}
 use Rattle.member_set.specs.declared.members.Built.{Built}
-use Rattle.member_set.specs.declared.members.Law.{Law}
 use Rattle.member_set.specs.Members.{IsBuilt, built_nodes}
-use Rattle.member_set.specs.Realisation.{fraction, every_member, exact_entry, entry_unit, Stiffness, IsStiffnessOf}
+use Rattle.member_set.specs.Realisation.{fraction}
 use Rattle.sym_blocks.specs.Matrix.{Matrix, entry}
 use Rattle.assembly.specs.Stiffness.{HasPatternOf, AreJoined, upper_entry, IsWithinRadius}
 use Rattle.flex_interval.specs.Operations.{middle_of, radius_of}
@@ -27,15 +26,10 @@ near_of e exact unit v w floor is within =
     omega (arith, int_sums, low, high, within.at_least, within.at_most, sub-mul v e.lo unit, sub-mul e.hi v unit, mul_comm unit v, mul_comm unit w)
 
 pub filled_from : (b : Built) (km rd km_new rd_new : Matrix) (row col : ℕ) (v w : ℤ) (e : Ends) → upper_entry b row col ≡ Ok e →
-    IsFloor (e.lo +ℤ e.hi) (pos 2) v → v ≡ middle_of e → w ≡ radius_of e →
-    ((laws : List Law) (s : Stiffness) → IsStiffnessOf b laws s → Within e (fraction (exact_entry every_member s row col) (entry_unit s.denominator))) →
-    pos 0 ≤ℤ w → PutsAt km km_new row col v → PutsAt rd rd_new row col w → IsFilled b km_new rd_new row col
-filled_from b km rd km_new rd_new row col v w e is floor middle radius within not_negative puts puts_too =
+    v ≡ middle_of e → w ≡ radius_of e → pos 0 ≤ℤ w → PutsAt km km_new row col v → PutsAt rd rd_new row col w → IsFilled b km_new rd_new row col
+filled_from b km rd km_new rd_new row col v w e is middle radius not_negative puts puts_too =
     record {
       are = record { enclosure = e; value = is; middle_is = puts.place ∙ middle; radius_is = puts_too.place ∙ radius };
-      near = λ laws s real.
-          rw (puts.place, puts_too.place)
-          (near_of e (exact_entry every_member s row col) (entry_unit s.denominator) v w floor (radius ∙ ap (λ (z : ℤ). e.hi -ℤ z) (sym middle)) (within laws s real));
       not_negative = rw puts_too.place not_negative;
     }
 
@@ -45,7 +39,6 @@ moved : (b : Built) (km rd km_new rd_new : Matrix) (i j : ℕ) → entry km_new 
 moved b km rd km_new rd_new i j same same_too was =
     record {
       are = record { enclosure = was.are.enclosure; value = was.are.value; middle_is = same ∙ was.are.middle_is; radius_is = same_too ∙ was.are.radius_is };
-      near = rw (same, same_too) was.near;
       not_negative = rw same_too was.not_negative;
     }
 

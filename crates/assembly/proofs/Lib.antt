@@ -3,5 +3,7 @@ pub mod Kept
 pub mod Outside
 pub mod Patterns
 pub mod Terms
+pub mod UnderStates
+pub mod Walks
 pub mod Whole
 pub mod InclusionLaw

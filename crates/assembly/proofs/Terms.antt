@@ -1,44 +1,32 @@
--- The sum of an entry, member by member.
-use Rattle.std.proofs.Common.{◌≡◌, ℕ, ◌+◌, ◌/◌, ◌<◌, List, length, get_or, slice_index, add-one, Ok, Err, refl, ap, sym, ◌∙◌, arith}
-use Rattle.std.proofs.lemmas.List.{get_or_read_under}
+-- The sum of an entry, member by member of a list.
+use Rattle.std.proofs.Common.{◌≡◌, ℕ, ◌+◌, ◌/◌, ◌<◌, ◌⊎◌, List, length, slice_index, add-one, Ok, Err, sym, arith}
 use Rattle.flex_interval.specs.Ends.{Ends}
 use Rattle.flex_interval.specs.Operations.{add_of}
 use Rattle.lists.specs.Results.{and_then}
 use Rattle.flex_interval.specs.declared.fault.IvFault.{IvFault}
-use Rattle.member_set.specs.declared.members.Member.{Member}
 use Rattle.member_set.specs.declared.members.Built.{Built}
-use Rattle.member_set.specs.Members.{nothing, no_member, members_at}
+use Rattle.member_set.specs.Members.{IsBuilt, nothing, members_at, row_count}
 use Rattle.member_set.specs.Interval.{Outcome, in_turn, FaultsStay}
-use Rattle.assembly.specs.Stiffness.{member_entry, entry_term, entry_sum}
+use Rattle.assembly.specs.Stiffness.{entry_sum}
+use Rattle.assembly.specs.Filling.{pair_entry}
+use Rattle.assembly.proofs.Walks.{walked_sum}
 
--- what the n-th member at a row's node gives, by the member itself
-entry_term-at : (b : Built) (row col n : ℕ) (numbers : List ℕ) (m : Member) →
-    numbers ≡ members_at b (row / 6) → slice_index numbers n < length b.members → m ≡ get_or b.members (slice_index numbers n) m →
-    entry_term b row col n ≡ member_entry m row col
-entry_term-at b row col n numbers m items inside is =
-    rw (← items)
-    (ap (λ (x : Member). member_entry x row col)
-    (sym (get_or_read_under b.members (slice_index numbers n) (length b.members) m no_member is inside refl)))
+-- what the t-th member of a list gives
+abbrev pub listed_term : Built → ℕ → ℕ → List ℕ → ℕ → Outcome
+listed_term b row col numbers t = pair_entry b row col (slice_index numbers t)
 
 -- one member more
-pub entry-next : (b : Built) (row col n : ℕ) (numbers : List ℕ) (m : Member) (total : Ends) (after : Outcome) →
-    numbers ≡ members_at b (row / 6) → slice_index numbers n < length b.members → m ≡ get_or b.members (slice_index numbers n) m →
-    in_turn add_of nothing (entry_term b row col) n ≡ Ok total →
-    after ≡ and_then (member_entry m row col) (add_of total) → in_turn add_of nothing (entry_term b row col) (n + 1) ≡ after
-entry-next b row col n numbers m total after items inside is before now =
-    rw (add-one n, before)
-    (ap (λ (t : Outcome). and_then t (add_of total)) (entry_term-at b row col n numbers m items inside is) ∙ sym now)
+pub term-next : (b : Built) (row col n : ℕ) (numbers : List ℕ) (total : Ends) (after : Outcome) →
+    in_turn add_of nothing (listed_term b row col numbers) n ≡ Ok total → after ≡ and_then (pair_entry b row col (slice_index numbers n)) (add_of total) →
+    in_turn add_of nothing (listed_term b row col numbers) (n + 1) ≡ after
+term-next b row col n numbers total after before now = rw (add-one n, before) (sym now)
+
+-- the whole sum, where the list is that of either node
+pub terms-whole : (b : Built) → IsBuilt b → (row col walked : ℕ) (numbers : List ℕ) → row < row_count b → col < row_count b → (walked ≡ row) ⊎ (walked ≡ col) →
+    numbers ≡ members_at b (walked / 6) → in_turn add_of nothing (listed_term b row col numbers) (length numbers) ≡ entry_sum b row col
+terms-whole b built row col walked numbers row_inside col_inside own items = rw items (walked_sum b built row col walked row_inside col_inside own)
 
 -- a fault is that of the whole
-pub entry-fault : FaultsStay → (b : Built) (row col n : ℕ) (numbers : List ℕ) (fault : IvFault) →
-    numbers ≡ members_at b (row / 6) → n < length numbers → in_turn add_of nothing (entry_term b row col) (n + 1) ≡ Err fault →
-    entry_sum b row col ≡ Err fault
-unfolding entry_sum
-entry-fault stays b row col n numbers fault items inside at =
-    rw (← items) (stays add_of nothing (entry_term b row col) (n + 1) (length numbers) fault (omega arith) at)
-
-pub entry-whole : (b : Built) (row col n : ℕ) (numbers : List ℕ) (total : Ends) →
-    numbers ≡ members_at b (row / 6) → n ≡ length numbers → in_turn add_of nothing (entry_term b row col) n ≡ Ok total →
-    entry_sum b row col ≡ Ok total
-unfolding entry_sum
-entry-whole b row col n numbers total items done at = rw (← items, ← done) at
+pub terms-fault : FaultsStay → (b : Built) (row col n : ℕ) (numbers : List ℕ) (fault : IvFault) → n < length numbers →
+    in_turn add_of nothing (listed_term b row col numbers) (n + 1) ≡ Err fault → in_turn add_of nothing (listed_term b row col numbers) (length numbers) ≡ Err fault
+terms-fault stays b row col n numbers fault inside at = stays add_of nothing (listed_term b row col numbers) (n + 1) (length numbers) fault (omega arith) at

@@ -1,5 +1,5 @@
 -- The whole matrices: what stands outside the pattern.
-use Rattle.std.proofs.Common.{◌≡◌, ◌≢◌, ℕ, zero, suc, ◌/◌, ◌<◌, ◌⊎◌, inl, inr, List, length, get_or, slice_index, refl, ap, ◌∙◌, arith, ◌≤◌, false, true, Ok, Err, ℤ, pos, ◌*ℤ◌, ◌≤ℤ◌}
+use Rattle.std.proofs.Common.{◌≡◌, ◌≢◌, ℕ, zero, suc, ◌/◌, ◌<◌, ◌⊎◌, inl, inr, List, length, get_or, slice_index, refl, arith, ◌≤◌, false, true, Ok, Err, pos, ◌≤ℤ◌}
 use Rattle.std.specs.Prelude.{Contains, IsOk, Result, is_err, OnOk, OnErr}
 use Rattle.std.proofs.lemmas.Bool.{cases_eq}
 use Rattle.sym_blocks.specs.Matrix.{Matrix, pattern_of, HasBlock, entry, node_count as nodes_of, IsSymmetricByBlocks}
@@ -13,20 +13,17 @@ use Rattle.member_set.specs.declared.members.Built.{Built}
 use Rattle.member_set.specs.Members.{nothing, Touches, IsBuilt, row_count, built_nodes, member_of, members_at, touches}
 use Rattle.member_set.specs.Interval.{Outcome, in_turn}
 use Rattle.int_laws.proofs.Sums.{int_sums}
-use Rattle.int_laws.proofs.Products.{between_zeros, mul_turn, zero-mul, mul_comm, mul_swap}
-use Rattle.int_laws.proofs.SumLaws.{sum_below-zero, sum_below-same}
-use Rattle.flex_interval.specs.Ends.{Ends}
-use Rattle.member_set.specs.declared.members.Law.{Law}
-use Rattle.member_set.specs.Realisation.{Stiffness, IsStiffnessOf, every_member, exact_entry, entry_unit}
-use Rattle.assembly.proofs.Outside.{off_node, product_zero}
-use Rattle.assembly.specs.Stiffness.{AreAssembled, IsWithinRadius, stiffness_at, HasPatternOf, IsFirstWide, entry_term, entry_sum, upper_entry, Joins, AreJoined}
+use Rattle.int_laws.proofs.Products.{mul_turn}
+use Rattle.int_laws.proofs.SumLaws.{sum_below-same}
+use Rattle.member_set.specs.Realisation.{Stiffness, every_member, exact_entry}
+use Rattle.assembly.specs.Stiffness.{AreAssembled, stiffness_at, HasPatternOf, IsFirstWide, entry_term, entry_sum, upper_entry, Joins, AreJoined}
 
 nothing_sum : (term : ℕ → Outcome) (n : ℕ) → ((t : ℕ) → t < n → term t ≡ Ok nothing) → in_turn add_of nothing term n ≡ Ok nothing
 unfolding add_of
 nothing_sum term zero all = refl
 nothing_sum term (suc n) all = rw (nothing_sum term n (λ t below. all t (omega arith)), all n (omega arith)) refl
 
-not_of : (m : Member) (k : ℕ) → m.n1 ≢ k → m.n2 ≢ k → touches m k ≡ false
+pub not_of : (m : Member) (k : ℕ) → m.n1 ≢ k → m.n2 ≢ k → touches m k ≡ false
 not_of m k first second = grind (arith, nat_tests)
 
 not_touching : (m : Member) (n k : ℕ) → (Joins m n k → ⊥) → Touches m n → n ≢ k → touches m k ≡ false
@@ -107,35 +104,6 @@ pub on_err : {T E : Type 0} (r : Result T E) (P : Type 0) → is_err r ≡ true 
 on_err (Ok t) P e h = grind arith
 on_err (Err x) P e h = h
 
-exact_zero : (b : Built) → IsBuilt b → (laws : List Law) (s : Stiffness) → IsStiffnessOf b laws s → (i j : ℕ) → i / 6 < built_nodes b →
-    (AreJoined b (i / 6) (j / 6) → ⊥) → exact_entry every_member s i j ≡ pos 0
-exact_zero b built laws s real i j node_inside apart =
-    sum_below-zero s.members _
-    (λ k inside.
-    let within = real.member_within k inside in
-    let touched : Touches (member_of b k) (i / 6) → (s.member k).shape i *ℤ ((s.member k).stiffness *ℤ (s.member k).shape j) ≡ pos 0 =
-    λ touch.
-    let off = not_touching (member_of b k) (i / 6) (j / 6) (λ joins. apart (inr (k, omega (arith, real.all_members, inside), joins))) touch (λ e. apart (inl (e, node_inside))) in
-    let w = rw (off_node (member_of b k) j off) at (within.shape_within j) in
-    let none = between_zeros ((s.member k).shape j) s.denominator w.at_least w.at_most in
-    ap (λ (z : ℤ). (s.member k).shape i *ℤ ((s.member k).stiffness *ℤ z)) none ∙ product_zero ((s.member k).shape i) (s.member k).stiffness in
-    let first : ((member_of b k).n1 ≡ i / 6) ⊎ ((member_of b k).n1 ≢ i / 6) = search arith in
-    let second : ((member_of b k).n2 ≡ i / 6) ⊎ ((member_of b k).n2 ≢ i / 6) = search arith in
-    elim first [
-      | inl e ↦ touched (inl e)
-      | inr not_first ↦ elim second [
-        | inl e ↦ touched (inr e)
-        | inr not_second ↦
-            let off = not_of (member_of b k) (i / 6) not_first not_second in
-            let w = rw (off_node (member_of b k) i off) at (within.shape_within i) in
-            let none = between_zeros ((s.member k).shape i) s.denominator w.at_least w.at_most in
-            ap (λ (z : ℤ). z *ℤ ((s.member k).stiffness *ℤ (s.member k).shape j)) none ∙ zero-mul ((s.member k).stiffness *ℤ (s.member k).shape j)
-      ]
-    ])
-
-near_zero : (unit : ℤ) → IsWithinRadius unit (pos 0) (pos 0) (pos 0)
-near_zero unit = omega (arith, int_sums, mul_comm unit (pos 0), zero-mul unit)
-
 filled_all : (b : Built) → IsBuilt b → (km rd : Matrix) → IsSymmetricByBlocks km → IsSymmetricByBlocks rd → HasPatternOf km b → HasPatternOf rd b → (i j : ℕ) → i < row_count b →
     (HasBlock km (i / 6) (j / 6) → IsFilled b km rd i j) → IsFilled b km rd i j
 unfolding floor_of
@@ -148,7 +116,6 @@ filled_all b built km rd middles radii pattern pattern_too i j inside filled =
           let none_too = radii.outside i j (λ has. apart ((pattern_too (i / 6) (j / 6)).0 has)) in
           record {
             are = record { enclosure = nothing; value = outside_value b built i j (omega arith) apart; middle_is = none; radius_is = none_too };
-            near = λ laws s real. rw (none, none_too, exact_zero b built laws s real i j (omega arith) apart) (near_zero (entry_unit s.denominator));
             not_negative = rw none_too (omega (arith, int_sums));
           }
     ]
@@ -191,18 +158,6 @@ assembled b built km rd middles radii pattern pattern_too filled =
                 (filled_all b built km rd middles radii pattern pattern_too j i j_inside (filled j i j_inside (omega arith))).are
           ];
     }
-
-pub all_near : (b : Built) → IsBuilt b → (km rd : Matrix) → IsSymmetricByBlocks km → IsSymmetricByBlocks rd → HasPatternOf km b → HasPatternOf rd b →
-    ((i j : ℕ) → i < row_count b → i ≤ j → HasBlock km (i / 6) (j / 6) → IsFilled b km rd i j) →
-    (laws : List Law) (s : Stiffness) → IsStiffnessOf b laws s → (i j : ℕ) → i < row_count b → j < row_count b →
-    IsWithinRadius (entry_unit s.denominator) (exact_entry every_member s i j) (entry km i j) (entry rd i j)
-all_near b built km rd middles radii pattern pattern_too filled laws s real i j i_inside j_inside =
-    let side : (i ≤ j) ⊎ (j < i) = search arith in
-    elim side [
-      | inl up ↦ (filled_all b built km rd middles radii pattern pattern_too i j i_inside (filled i j i_inside up)).near laws s real
-      | inr down ↦ rw (exact_symmetric s i j, middles.symmetric i j, radii.symmetric i j)
-          ((filled_all b built km rd middles radii pattern pattern_too j i j_inside (filled j i j_inside (omega arith))).near laws s real)
-    ]
 
 pub all_not_negative : (b : Built) → IsBuilt b → (km rd : Matrix) → IsSymmetricByBlocks km → IsSymmetricByBlocks rd → HasPatternOf km b → HasPatternOf rd b →
     ((i j : ℕ) → i < row_count b → i ≤ j → HasBlock km (i / 6) (j / 6) → IsFilled b km rd i j) →

@@ -1,6 +1,5 @@
 -- The stiffness matrix of a structure: the enclosure of each entry, its middle and its radius, and what it encloses.
-use Rattle.std.specs.Prelude.{ℕ, ◌+◌, ◌/◌, ◌^◌, ◌<◌, ◌≡◌, ◌==◌, ◌||◌, ⊤, ◌⊎◌, ◌↔◌, Bool, nat_lt, length, slice_index, ℤ, pos, ◌-ℤ◌, ◌*ℤ◌, ◌≤ℤ◌, unsigned_abs, Ok, Err, IsOk, IsErr, is_err, Option, Result, if◌then◌else◌}
-use Rattle.int_laws.specs.Sums.{sum_below}
+use Rattle.std.specs.Prelude.{ℕ, ◌+◌, ◌/◌, ◌^◌, ◌<◌, ◌≡◌, ⊤, ◌⊎◌, ◌↔◌, Bool, nat_lt, length, slice_index, ℤ, pos, ◌-ℤ◌, ◌*ℤ◌, ◌≤ℤ◌, unsigned_abs, Ok, Err, IsOk, IsErr, is_err, Option, Result, if◌then◌else◌}
 use Rattle.flex_interval.specs.Ends.{Ends}
 use Rattle.flex_interval.specs.Operations.{add_of, mul_of, middle_of, radius_of}
 use Rattle.lists.specs.Results.{and_then, unless}

@@ -1,34 +1,42 @@
-ghost use Rattle.std.specs.Prelude.{◌≡◌, ℕ, ◌+◌, ◌/◌, ◌^◌, ◌<◌, length, slice_index, ℤ, pos, ◌+ℤ◌, ◌-ℤ◌, ◌*ℤ◌, ◌≤ℤ◌, ◌<ℤ◌, unsigned_abs, IfOk, List};
-ghost use Rattle.flex_interval.specs.Fraction.{Within};
-ghost use Rattle.flex_interval.specs.Operations.{add_of, mul_of, middle_of, radius_of};
+ghost use Rattle.std.specs.Prelude.{◌≡◌, ◌+◌, ◌/◌, ◌^◌, ◌<◌, ◌⊎◌, length, unsigned_abs, IfOk};
+ghost use Rattle.flex_interval.specs.Operations.{add_of};
 ghost use Rattle.lists.specs.Results.{and_then};
-ghost use Rattle.member_set.specs.declared.members.Law.{Law};
-ghost use Rattle.member_set.specs.Members.{IsBuilt, shape_at, touches, row_count, members_at};
-ghost use Rattle.member_set.specs.Realisation.{fraction, every_member, exact_entry, entry_unit, Stiffness, IsStiffnessOf};
-ghost use Rattle.assembly.specs.Stiffness.{member_entry, entry_sum, limited_entry, upper_entry};
+ghost use Rattle.member_set.specs.Members.{IsBuilt, touches, row_count};
+ghost use Rattle.member_set.specs.States.{under};
+ghost use Rattle.assembly.specs.Stiffness.{entry_sum, limited_entry, upper_entry};
+ghost use Rattle.assembly.specs.Filling.{pair_entry, IsScaled};
 
 use flex_interval::{Iv, IvFault, middle, radius};
-use member_set::{Built, Member, faults_stay, members_at, shape};
+use member_set::{Built, Member, faults_stay, members_at, shape, states_select_members};
 
 /// The middle and the radius of an entry together are below this, in units of 2^-20 N/m.
 const ENTRY_LIMIT: u128 = 1 << 60;
 
+/// A row of the matrix of the members that take part under given states.
+#[derive(Clone, Copy)]
+pub(crate) struct ScaledRow<'a> {
+    pub b: &'a Built,
+    pub closed: &'a [bool],
+    pub number: u32,
+    /// The stiffness times the shape number on the row, for each member at the row's node.
+    pub scaled: &'a [Iv],
+}
+
 /// The enclosure of an entry, the lesser row first, in units of 2^-20 N/m. `Wide` too where its middle and radius together
 /// reach 2^60.
-pub(crate) fn upper_entry(b: &Built, row: u32, col: u32) -> Result<Iv, IvFault>
-    requires built { IsBuilt b.now }
-    requires row_in_range { row < row_count b.now }
-    ensures value { result ≡ upper_entry b.now row col }
-    ensures within { IfOk result (λ e. (laws : List Law) (s : Stiffness) → IsStiffnessOf b.now laws s →
-        Within e (fraction (exact_entry every_member s row col) (entry_unit s.denominator))) }
+pub(crate) fn upper_entry(row: &ScaledRow, col: u32) -> Result<Iv, IvFault>
+    requires built { IsBuilt row.now.b.now }
+    requires row_in_range { row.now.number < row_count row.now.b.now }
+    requires col_in_range { col < row_count row.now.b.now }
+    requires scaled { IsScaled (under row.now.b.now row.now.closed.now) row.now.number row.now.scaled.now }
+    ensures { result ≡ upper_entry (under row.now.b.now row.now.closed.now) row.now.number col }
 {
-    limited(entry_sum(b, row, col)?)
+    limited(entry_sum(row, col)?)
 }
 
 /// An enclosure below the limit.
 fn limited(e: Iv) -> Result<Iv, IvFault>
-    ensures value { result ≡ limited_entry e }
-    ensures same { IfOk result (λ x. x ≡ e) }
+    ensures { result ≡ limited_entry e }
 {
     if middle(e).unsigned_abs() + radius(e).unsigned_abs() < ENTRY_LIMIT {
         Ok(e)
@@ -37,42 +45,59 @@ fn limited(e: Iv) -> Result<Iv, IvFault>
     }
 }
 
-/// The sum over the members at a row's node.
-fn entry_sum(b: &Built, row: u32, col: u32) -> Result<Iv, IvFault>
-    requires built { IsBuilt b.now }
-    requires row_in_range { row < row_count b.now }
-    ensures value { result ≡ entry_sum b.now row col }
-    ensures within { IfOk result (λ e. (laws : List Law) (s : Stiffness) → IsStiffnessOf b.now laws s →
-        Within e (fraction (exact_entry every_member s row col) (entry_unit s.denominator))) }
+/// The sum over the members at the row's node, by way of the fewer that are at the column's where it has fewer.
+fn entry_sum(row: &ScaledRow, col: u32) -> Result<Iv, IvFault>
+    requires built { IsBuilt row.now.b.now }
+    requires row_in_range { row.now.number < row_count row.now.b.now }
+    requires col_in_range { col < row_count row.now.b.now }
+    requires scaled { IsScaled (under row.now.b.now row.now.closed.now) row.now.number row.now.scaled.now }
+    ensures { result ≡ entry_sum (under row.now.b.now row.now.closed.now) row.now.number col }
 {
     faults_stay();
+    states_select_members();
     let mut total = flex_interval::point(0);
-    for &k in members_at(b, row) {
-        total = plus_member(&b.members.as_slice()[k as usize], row, col, total)?;
+    for &k in members_at(row.b, with_fewer(row, col)) {
+        total = plus_member(row, k, col, total)?;
     }
     Ok(total)
 }
 
-/// A sum and what a member gives to the entry.
-fn plus_member(m: &Member, row: u32, col: u32, total: Iv) -> Result<Iv, IvFault>
-    ensures value { result ≡ and_then (member_entry m.now row col) (add_of total) }
-    ensures within { IfOk result (λ e. (q stiffness first second before : ℤ) → pos 0 <ℤ q → Within m.now.kappa (fraction stiffness q) →
-        Within (shape_at m.now row) (fraction first q) → Within (shape_at m.now col) (fraction second q) →
-        Within total (fraction before (entry_unit q)) →
-        Within e (fraction (before +ℤ (first *ℤ (stiffness *ℤ second))) (entry_unit q))) }
+/// The row, or the column where fewer members are at its node.
+fn with_fewer(row: &ScaledRow, col: u32) -> u32
+    requires built { IsBuilt row.now.b.now }
+    requires row_in_range { row.now.number < row_count row.now.b.now }
+    requires col_in_range { col < row_count row.now.b.now }
+    ensures { (result ≡ row.now.number) ⊎ (result ≡ col) }
 {
-    flex_interval::add(total, member_entry(m, row, col)?)
+    if members_at(row.b, col).len() < members_at(row.b, row.number).len() {
+        col
+    } else {
+        row.number
+    }
 }
 
-/// What a member at a row's node gives to an entry of the row.
-fn member_entry(m: &Member, row: u32, col: u32) -> Result<Iv, IvFault>
-    ensures value { result ≡ member_entry m.now row col }
-    ensures within { IfOk result (λ e. (q stiffness first second : ℤ) → pos 0 <ℤ q → Within m.now.kappa (fraction stiffness q) →
-        Within (shape_at m.now row) (fraction first q) → Within (shape_at m.now col) (fraction second q) →
-        Within e (fraction (first *ℤ (stiffness *ℤ second)) (entry_unit q))) }
+/// A sum and what a member gives to the entry.
+fn plus_member(row: &ScaledRow, k: u32, col: u32, total: Iv) -> Result<Iv, IvFault>
+    requires built { IsBuilt row.now.b.now }
+    requires row_in_range { row.now.number < row_count row.now.b.now }
+    requires member_in_range { k < length row.now.b.now.members }
+    requires scaled { IsScaled (under row.now.b.now row.now.closed.now) row.now.number row.now.scaled.now }
+    ensures { result ≡ and_then (pair_entry (under row.now.b.now row.now.closed.now) row.now.number col k) (add_of total) }
 {
-    if touches(m, col / 6) {
-        product(m, row, col)
+    flex_interval::add(total, member_entry(row, k, col)?)
+}
+
+/// What a member gives to an entry.
+fn member_entry(row: &ScaledRow, k: u32, col: u32) -> Result<Iv, IvFault>
+    requires built { IsBuilt row.now.b.now }
+    requires row_in_range { row.now.number < row_count row.now.b.now }
+    requires member_in_range { k < length row.now.b.now.members }
+    requires scaled { IsScaled (under row.now.b.now row.now.closed.now) row.now.number row.now.scaled.now }
+    ensures { result ≡ pair_entry (under row.now.b.now row.now.closed.now) row.now.number col k }
+{
+    let m = &row.b.members.as_slice()[k as usize];
+    if touches(m, row.number / 6) && touches(m, col / 6) {
+        flex_interval::mul(row.scaled[k as usize], shape(m, col), 56)
     } else {
         Ok(flex_interval::point(0))
     }
@@ -83,15 +108,4 @@ fn touches(m: &Member, node: u32) -> bool
     ensures { result ≡ touches m.now node }
 {
     m.n1 == node || m.n2 == node
-}
-
-/// The stiffness times the shape numbers on two rows.
-fn product(m: &Member, row: u32, col: u32) -> Result<Iv, IvFault>
-    ensures value { result ≡ and_then (mul_of m.now.kappa (shape_at m.now row) 56) (λ e. mul_of e (shape_at m.now col) 56) }
-    ensures within { IfOk result (λ e. (q stiffness first second : ℤ) → pos 0 <ℤ q → Within m.now.kappa (fraction stiffness q) →
-        Within (shape_at m.now row) (fraction first q) → Within (shape_at m.now col) (fraction second q) →
-        Within e (fraction (first *ℤ (stiffness *ℤ second)) (entry_unit q))) }
-{
-    let first = flex_interval::mul(m.kappa, shape(m, row), 56)?;
-    flex_interval::mul(first, shape(m, col), 56)
 }

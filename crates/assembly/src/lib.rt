@@ -6,6 +6,7 @@ mod fault;
 mod filling;
 mod laws;
 mod matrices;
+mod scaling;
 
 pub use fault::AssembleFault;
 pub use laws::matrices_hold;

@@ -1,11 +1,12 @@
 -- Iterative refinement of displacements: eight turns, each of which solves for the middles of the residuals, scaled so that
 -- the solution keeps its digits, and adds the solution. Units: residuals in 2^-40 N, displacements in 2^-56 m, the entries
 -- of the factor in 2^-36 of the root of N/m, so that p + q = 88 digits of scaling bring G G^T z = 2^88 r back to z.
-use Rattle.std.specs.Prelude.{ℕ, zero, suc, ◌-◌, ◌*◌, ◌^◌, ◌<◌, ◌≤◌, ◌≡◌, List, length, replicate, ℤ, pos, ◌+ℤ◌, ◌*ℤ◌, unsigned_abs, Ok, IsErr}
+use Rattle.std.specs.Prelude.{ℕ, zero, suc, ◌-◌, ◌*◌, ◌^◌, ◌<◌, ◌≤◌, ◌≡◌, Bool, List, length, replicate, ℤ, pos, ◌+ℤ◌, ◌*ℤ◌, unsigned_abs, Ok, IsErr}
 use Rattle.flex_interval.specs.Ends.{Ends}
 use Rattle.flex_interval.specs.Operations.{middle_of}
 use Rattle.member_set.specs.Members.{row_count, IsModerate, System}
-use Rattle.member_set.specs.Interval.{Outcome, residual_of}
+use Rattle.member_set.specs.Interval.{Outcome, residual_with}
+use Rattle.member_set.specs.States.{trial_forces_of}
 use Rattle.lists.specs.Rows.{freedom_at}
 use Rattle.solve.specs.Substitution.{at, IsForward, ForwardBreaks, IsBackward, BackwardBreaks}
 use Rattle.int_laws.specs.Matrices.{Vector, Entries}
@@ -64,21 +65,26 @@ pub record MovesTooFar (size : ℕ) (order : List ℕ) (u z : List ℤ) : Type 0
 
 -- ---- a turn
 
--- what is to be solved: a system, and the entries of the factor of its middle stiffness matrix, whose rows and columns stand
--- in the order of elimination
+-- the residual of a row at displacements u, where the forces are those under given states
+abbrev pub trial_residual_of : System → List Bool → List ℤ → ℕ → Outcome
+trial_residual_of s closed u row = residual_with s.structure s.loads (trial_forces_of s.structure s.laws closed u) row
+
+-- what is to be solved: a system under given states, and the entries of the factor of its middle stiffness matrix under them,
+-- whose rows and columns stand in the order of elimination
 pub record Problem : Type 0 where
   pub system : System
+  pub closed : List Bool
   pub order : List ℕ
   pub factor : Entries
 
-abbrev pub problem : System → List ℕ → Entries → Problem
-problem system order factor = record { system = system; order = order; factor = factor }
+abbrev pub problem : System → List Bool → List ℕ → Entries → Problem
+problem system closed order factor = record { system = system; closed = closed; order = order; factor = factor }
 
 abbrev pub size_of : Problem → ℕ
 size_of p = row_count p.system.structure
 
 abbrev pub problem_residual : Problem → List ℤ → ℕ → Outcome
-problem_residual p u row = residual_of p.system u row
+problem_residual p u row = trial_residual_of p.system p.closed u row
 
 -- the steps of a turn from displacements u: the middles of the residuals, their scale, and the two substitutions
 abbrev pub HasMiddles : Problem → List ℤ → List ℤ → Type 0

@@ -1,13 +1,12 @@
-ghost use Rattle.std.specs.Prelude.{◌≡◌, ℕ, ◌+◌, ◌*◌, ◌/◌, ◌^◌, ◌<◌, ◌≤◌, ◌⊎◌, [], length, replicate, unsigned_abs, ℤ, pos, ◌+ℤ◌, ◌<ℤ◌, OnOk, OnErr, IfOk, Err};
+ghost use Rattle.std.specs.Prelude.{◌≡◌, ℕ, ◌+◌, ◌*◌, ◌/◌, ◌^◌, ◌<◌, ◌≤◌, ◌⊎◌, length, replicate, unsigned_abs, ℤ, pos, ◌+ℤ◌, ◌<ℤ◌, OnOk, OnErr, IfOk, Err};
 ghost use Rattle.member_set.specs.Members.{IsSystem, IsModerate, row_count, built_nodes, system};
-ghost use Rattle.member_set.specs.Interval.{residual_of};
 ghost use Rattle.factor_data.specs.Columns.{factor_entry};
 ghost use Rattle.lists.specs.Rows.{freedom_at};
 ghost use Rattle.lists.specs.Order.{IsOrder};
 ghost use Rattle.flex_num.specs.Guarded.{value_at};
 ghost use Rattle.solve.specs.Numerators.{IsUntaken};
 ghost use Rattle.solve.specs.Substitution.{at};
-ghost use Rattle.solve.specs.Refinement.{AreMiddles, HasNoResidual, HasNoRoom, forward_side, IsMoved, MovesTooFar, problem, IsTurn, TurnBreaks, LeadTo, IsCandidate, IsTooWide, IsScaling, HasDigits};
+ghost use Rattle.solve.specs.Refinement.{AreMiddles, HasNoResidual, HasNoRoom, forward_side, IsMoved, MovesTooFar, problem, trial_residual_of, IsTurn, TurnBreaks, LeadTo, IsCandidate, IsTooWide, IsScaling, HasDigits};
 
 use crate::fault::SolveFault;
 use crate::numerators::scaled;
@@ -15,7 +14,7 @@ use crate::substitution::{backward, forward, power_of_two};
 use factor_data::Factor;
 use flex_interval::{Iv, Wide, point};
 use flex_num::GuardedSum;
-use member_set::{Built, Law, member_forces, residual_from};
+use member_set::{Built, Law, residual_from, trial_forces};
 use std::alloc::Global;
 
 /// How many turns the refinement takes.
@@ -33,8 +32,9 @@ const ALL_DIGITS: u32 = 88;
 /// A displacement is at most this in size, in units of 2^-56 m or rad.
 const FARTHEST: u128 = 1 << 60;
 
-/// The displacements of each row, in units of 2^-56 m or rad, after eight turns of refinement from rest. The forces follow
-/// the laws of the members; no law is one-way, so there are no states. `f` is the factor of the middle stiffness matrix.
+/// The displacements of each row, in units of 2^-56 m or rad, after eight turns of refinement from rest. The forces are those
+/// under the states `closed`, one for each state number: linear where a member takes part, else 0. An empty list leaves the
+/// members without a state number alone. `f` is the factor of the middle stiffness matrix under these states.
 pub fn candidate(
     alloc: Global,
     b: &Built,
@@ -44,19 +44,27 @@ pub fn candidate(
     f: &Factor,
 ) -> Result<Vec<i128>, SolveFault>
     requires system { IsSystem (system b.now laws.now loads.now) }
-    requires no_one_way { b.now.unilateral ≡ [] }
-    requires no_states { closed.now ≡ [] }
     requires factor { length f.now.order ≡ built_nodes b.now }
     requires diagonal { (j : ℕ) → j < row_count b.now → pos 0 <ℤ factor_entry f.now j j }
-    ensures ok { IfOk result (λ u. IsCandidate (problem (system b.now laws.now loads.now) f.now.order (factor_entry f.now)) u.items) }
-    ensures wide { result ≡ Err SolveFault.Wide → IsTooWide (problem (system b.now laws.now loads.now) f.now.order (factor_entry f.now)) }
+    ensures ok { IfOk result (λ u. IsCandidate (problem (system b.now laws.now loads.now) closed.now f.now.order (factor_entry f.now)) u.items) }
+    ensures wide { result ≡ Err SolveFault.Wide → IsTooWide (problem (system b.now laws.now loads.now) closed.now f.now.order (factor_entry f.now)) }
 {
     let rows = loads.len();
     let mut u = vec![in alloc; 0; rows]?;
     let mut forces = vec![in alloc; point(0); laws.len()]?;
     let mut x = vec![in alloc; 0; rows]?;
     let mut left = vec![in alloc; GuardedSum::ZERO; rows]?;
-    refine(b, laws, loads, f, &mut u, &mut forces, &mut x, &mut left)?;
+    refine(
+        b,
+        laws,
+        closed,
+        loads,
+        f,
+        &mut u,
+        &mut forces,
+        &mut x,
+        &mut left,
+    )?;
     Ok(u)
 }
 
@@ -64,6 +72,7 @@ pub fn candidate(
 fn refine(
     b: &Built,
     laws: &[Law],
+    closed: &[bool],
     loads: &[Iv],
     f: &Factor,
     u: &mut [i128],
@@ -78,11 +87,11 @@ fn refine(
     requires one_force_each { length forces.old ≡ length b.now.members }
     requires one_unknown_each { length x.old ≡ row_count b.now }
     requires one_numerator_each { length left.old ≡ row_count b.now }
-    ensures candidate { OnOk result (IsCandidate (problem (system b.now laws.now loads.now) f.now.order (factor_entry f.now)) u.new) }
-    ensures wide { OnErr result (IsTooWide (problem (system b.now laws.now loads.now) f.now.order (factor_entry f.now))) }
+    ensures candidate { OnOk result (IsCandidate (problem (system b.now laws.now loads.now) closed.now f.now.order (factor_entry f.now)) u.new) }
+    ensures wide { OnErr result (IsTooWide (problem (system b.now laws.now loads.now) closed.now f.now.order (factor_entry f.now))) }
 {
     for _turn in 0..TURNS {
-        turn(b, laws, loads, f, u, forces, x, left)?;
+        turn(b, laws, closed, loads, f, u, forces, x, left)?;
     }
     Ok(())
 }
@@ -91,6 +100,7 @@ fn refine(
 fn turn(
     b: &Built,
     laws: &[Law],
+    closed: &[bool],
     loads: &[Iv],
     f: &Factor,
     u: &mut [i128],
@@ -106,10 +116,10 @@ fn turn(
     requires one_force_each { length forces.old ≡ length b.now.members }
     requires one_unknown_each { length x.old ≡ row_count b.now }
     requires one_numerator_each { length left.old ≡ row_count b.now }
-    ensures turned { OnOk result (IsTurn (problem (system b.now laws.now loads.now) f.now.order (factor_entry f.now)) u.old u.new) }
-    ensures breaks { OnErr result (TurnBreaks (problem (system b.now laws.now loads.now) f.now.order (factor_entry f.now)) u.old) }
+    ensures turned { OnOk result (IsTurn (problem (system b.now laws.now loads.now) closed.now f.now.order (factor_entry f.now)) u.old u.new) }
+    ensures breaks { OnErr result (TurnBreaks (problem (system b.now laws.now loads.now) closed.now f.now.order (factor_entry f.now)) u.old) }
 {
-    middles(b, laws, loads, u, forces, x)?;
+    middles(b, laws, closed, loads, u, forces, x)?;
     let digits = scale_digits(x)?;
     scale_sides(f.order(), x, digits, left);
     forward(f, left, x)?;
@@ -121,6 +131,7 @@ fn turn(
 fn middles(
     b: &Built,
     laws: &[Law],
+    closed: &[bool],
     loads: &[Iv],
     u: &[i128],
     forces: &mut [Iv],
@@ -131,10 +142,10 @@ fn middles(
     requires moderate { IsModerate u.now }
     requires one_force_each { length forces.old ≡ length b.now.members }
     requires one_middle_each { length r.old ≡ row_count b.now }
-    ensures middles { OnOk result (AreMiddles (row_count b.now) (residual_of (system b.now laws.now loads.now) u.now) r.new) }
-    ensures none { OnErr result (HasNoResidual (row_count b.now) (residual_of (system b.now laws.now loads.now) u.now)) }
+    ensures middles { OnOk result (AreMiddles (row_count b.now) (trial_residual_of (system b.now laws.now loads.now) closed.now u.now) r.new) }
+    ensures none { OnErr result (HasNoResidual (row_count b.now) (trial_residual_of (system b.now laws.now loads.now) closed.now u.now)) }
 {
-    member_forces(b, laws, u, forces)?;
+    trial_forces(b, laws, closed, u, forces)?;
     for row in 0..r.len() {
         r[row] = flex_interval::middle(residual_from(b, forces, loads, row as u32)?);
     }

@@ -12,5 +12,5 @@ written xs ys n e = grind (arith, common_steps)
 pub returns-clause-ok : goal.returns-clause-ok
 returns-clause-ok c =
     let len : c.in_ok-u.u.len ≡ length c.refine.new.u = omega (arith, c.refine.auto.u, c.deref_mut.ensures.len, c.in_ok-u.ensures.len) in
-    subst (λ (xs : List ℤ). IsCandidate (problem (system c.args.b.now c.args.laws.now c.args.loads.now) c.args.f.now.order (factor_entry c.args.f.now)) xs)
+    subst (λ (xs : List ℤ). IsCandidate (problem (system c.args.b.now c.args.laws.now c.args.loads.now) c.args.closed.now c.args.f.now.order (factor_entry c.args.f.now)) xs)
     (sym (written c.refine.new.u _ c.in_ok-u.u.len len)) c.in_ok-refine.ensures.candidate

@@ -38,4 +38,4 @@ returns-in_err-turn c =
 pub returns-clause-candidate : goal.returns-clause-candidate
 returns-clause-candidate c =
     let done : c.loop-turn._turn ≡ 8 = omega arith in
-    subst (λ (n : ℕ). LeadTo (problem (system c.args.b.now c.args.laws.now c.args.loads.now) c.args.f.now.order (factor_entry c.args.f.now)) n c.loop-turn.u) done c.loop-turn.invariant.lead
+    subst (λ (n : ℕ). LeadTo (problem (system c.args.b.now c.args.laws.now c.args.loads.now) c.args.closed.now c.args.f.now.order (factor_entry c.args.f.now)) n c.loop-turn.u) done c.loop-turn.invariant.lead

@@ -6,6 +6,6 @@ use Rattle.solve.proofs.refinement.refine.Given as goal
 abbrev pub invariant-loop-turn : goal.invariant-loop-turn
 invariant-loop-turn l =
     record {
-      lead : LeadTo (problem (system l.b l.laws l.loads) l.f.order (factor_entry l.f)) l._turn l.u;
+      lead : LeadTo (problem (system l.b l.laws l.loads) l.closed l.f.order (factor_entry l.f)) l._turn l.u;
       moderate : IsModerate l.u;
     }
