@@ -30,10 +30,10 @@ pub record EnclosesMoment (f : List Ends) (exact : Exact) : Type 0 where
   pub z : (missing : Ends) → Within (slice_index_or f 5 missing) (exact z_axis)
 
 -- the scalar product, in the unit of u for a v in 2^-56
-unfoldable pub dot : Exact → Exact → Fraction
-dot u v = plus (plus (times (u x_axis) (v x_axis) 56) (times (u y_axis) (v y_axis) 56)) (times (u z_axis) (v z_axis) 56)
+unfoldable pub inner_product : Exact → Exact → Fraction
+inner_product u v = plus (plus (times (u x_axis) (v x_axis) 56) (times (u y_axis) (v y_axis) 56)) (times (u z_axis) (v z_axis) 56)
 
-unfoldable pub dot_of : List Ends → List Ends → Result Ends IvFault
-dot_of u v =
+unfoldable pub inner_product_of : List Ends → List Ends → Result Ends IvFault
+inner_product_of u v =
     and_then (mul_of (part u x_axis) (part v x_axis) 56) (λ x. and_then (mul_of (part u y_axis) (part v y_axis) 56) (λ y. and_then (mul_of (part u z_axis) (part v z_axis) 56) (λ z.
     and_then (add_of x y) (λ first. add_of first z))))

@@ -7,7 +7,7 @@ use Rattle.flex_interval.specs.declared.fault.IvFault.{IvFault}
 use Rattle.flex_interval.specs.Operations.{point_of, max_of, mul_of, ratio_of}
 use Rattle.member_pairs.specs.Vectors.{Exact, cross, cross_of}
 use Rattle.stress_terms.specs.Terms.{intensified, intensified_of}
-use Rattle.code_stress.specs.Action.{dot, dot_of}
+use Rattle.code_stress.specs.Action.{inner_product, inner_product_of}
 
 -- ---- exact
 
@@ -17,7 +17,7 @@ stress_index i sustained = if sustained then greater (whole (pos (2 ^ 30))) (sca
 
 -- i |M| / Z for the moment about the normal
 unfoldable pub in_plane : Exact → Exact → Fraction → Fraction → Bool → Fraction
-in_plane moment normal index modulus sustained = intensified (dot moment normal) (stress_index index sustained) modulus
+in_plane moment normal index modulus sustained = intensified (inner_product moment normal) (stress_index index sustained) modulus
 
 -- and for that about the cross product of normal and tangent
 unfoldable pub out_of_plane : Exact → Exact → Exact → Fraction → Fraction → Bool → Fraction
@@ -28,9 +28,9 @@ unfoldable pub stress_index_of : Ends → Bool → Result Ends IvFault
 stress_index_of i sustained = if sustained then and_then (ratio_of i (pos 3) (pos 4)) (λ reduced. Ok (max_of (point_of (pos (2 ^ 30))) reduced)) else Ok i
 
 -- the squares
-unfoldable pub in_plane_of : List Ends → List Ends → Ends → Ends → Bool → Result Ends IvFault
-in_plane_of moment normal index modulus sustained =
-    and_then (dot_of moment normal) (λ about. and_then (stress_index_of index sustained) (λ reduced. and_then (intensified_of about reduced modulus) (λ stress. mul_of stress stress 0)))
+unfoldable pub in_plane_stress_of : List Ends → List Ends → Ends → Ends → Bool → Result Ends IvFault
+in_plane_stress_of moment normal index modulus sustained =
+    and_then (inner_product_of moment normal) (λ about. and_then (stress_index_of index sustained) (λ reduced. and_then (intensified_of about reduced modulus) (λ stress. mul_of stress stress 0)))
 
-unfoldable pub out_of_plane_of : List Ends → List Ends → List Ends → Ends → Ends → Bool → Result Ends IvFault
-out_of_plane_of moment normal tangent index modulus sustained = and_then (cross_of normal tangent) (λ across. in_plane_of moment across index modulus sustained)
+unfoldable pub out_of_plane_stress_of : List Ends → List Ends → List Ends → Ends → Ends → Bool → Result Ends IvFault
+out_of_plane_stress_of moment normal tangent index modulus sustained = and_then (cross_of normal tangent) (λ across. in_plane_stress_of moment across index modulus sustained)

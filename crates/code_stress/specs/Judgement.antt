@@ -13,8 +13,8 @@ verdict_of stress allowable = if int_le stress.hi allowable.lo then Pass else (i
 
 -- the stress by |Sa|, Sb^2 and 2 |St| is at most y
 abbrev pub IsStressAtMost : Fraction → Fraction → Fraction → Fraction → Type 0
-IsStressAtMost axial bending_square torsion y =
-    (b : Fraction) → IsNonnegative b → IsAtMost (times b b 0) bending_square → IsAtMost (combined_square axial b torsion) (times y y 0)
+IsStressAtMost axial bending_stress_square torsion y =
+    (b : Fraction) → IsNonnegative b → IsAtMost (times b b 0) bending_stress_square → IsAtMost (combined_square axial b torsion) (times y y 0)
 
 -- x < y, for positive denominators
 abbrev pub IsLess : Fraction → Fraction → Type 0
@@ -22,5 +22,5 @@ IsLess x y = (x.num *ℤ y.den) <ℤ (y.num *ℤ x.den)
 
 -- the stress is over y
 abbrev pub IsStressAbove : Fraction → Fraction → Fraction → Fraction → Type 0
-IsStressAbove axial bending_square torsion y =
-    (b : Fraction) → IsNonnegative b → IsAtMost bending_square (times b b 0) → IsLess (times y y 0) (combined_square axial b torsion)
+IsStressAbove axial bending_stress_square torsion y =
+    (b : Fraction) → IsNonnegative b → IsAtMost bending_stress_square (times b b 0) → IsLess (times y y 0) (combined_square axial b torsion)

@@ -8,13 +8,13 @@ use Rattle.flex_interval.specs.Operations.{add_of, mul_of}
 use Rattle.member_pairs.specs.Axes.{x_axis, y_axis, z_axis}
 use Rattle.member_pairs.specs.Vectors.{Exact, crossed, crossed_of}
 use Rattle.stress_terms.specs.Terms.{bending, bending_of}
-use Rattle.code_stress.specs.Action.{dot, dot_of}
+use Rattle.code_stress.specs.Action.{inner_product, inner_product_of}
 
 -- ---- exact
 
 -- |M| / Z for the moment about an axis
 unfoldable pub about : Exact → Exact → Fraction → Fraction
-about moment axis modulus = bending (dot moment axis) modulus
+about moment axis modulus = bending (inner_product moment axis) modulus
 
 abbrev pub about_square : Exact → Exact → Fraction → Fraction
 about_square moment axis modulus = times (about moment axis modulus) (about moment axis modulus) 0
@@ -26,7 +26,7 @@ straight_square moment tangent modulus =
 
 -- ---- rounded
 unfoldable pub about_of : List Ends → List Ends → Ends → Result Ends IvFault
-about_of moment axis modulus = and_then (dot_of moment axis) (λ part. bending_of part modulus)
+about_of moment axis modulus = and_then (inner_product_of moment axis) (λ part. bending_of part modulus)
 
 unfoldable pub about_square_of : List Ends → List Ends → Ends → Result Ends IvFault
 about_square_of moment axis modulus = and_then (about_of moment axis modulus) (λ stress. mul_of stress stress 0)

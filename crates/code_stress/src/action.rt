@@ -1,7 +1,7 @@
 ghost use Rattle.std.specs.Prelude.{◌≡◌, IfOk};
 ghost use Rattle.flex_interval.specs.Fraction.{Fraction, Within};
 ghost use Rattle.member_pairs.specs.Vectors.{Exact, EnclosesVector};
-ghost use Rattle.code_stress.specs.Action.{force_vector_of, moment_vector_of, EnclosesForce, EnclosesMoment, dot, dot_of};
+ghost use Rattle.code_stress.specs.Action.{force_vector_of, moment_vector_of, EnclosesForce, EnclosesMoment, inner_product, inner_product_of};
 
 use flex_interval::{Iv, IvFault, add, mul};
 
@@ -24,10 +24,10 @@ pub fn moment_vector(f: &[Iv; 6]) -> [Iv; 3]
 }
 
 /// The scalar product, in the unit of `u` for a `v` in units of 2^-56.
-#[tactic(auto, unfolding(crate::specs::Action::dot_of, crate::specs::Action::dot))]
-pub fn dot(u: &[Iv; 3], v: &[Iv; 3]) -> Result<Iv, IvFault>
-    ensures value { result ≡ dot_of u.now v.now }
-    ensures within { IfOk result (λ e. (x y : Exact) → EnclosesVector u.now x → EnclosesVector v.now y → Within e (dot x y)) }
+#[tactic(auto, unfolding(crate::specs::Action::inner_product_of, crate::specs::Action::inner_product))]
+pub fn inner_product(u: &[Iv; 3], v: &[Iv; 3]) -> Result<Iv, IvFault>
+    ensures value { result ≡ inner_product_of u.now v.now }
+    ensures within { IfOk result (λ e. (x y : Exact) → EnclosesVector u.now x → EnclosesVector v.now y → Within e (inner_product x y)) }
 {
     let [u_x, u_y, u_z] = *u;
     let [v_x, v_y, v_z] = *v;

@@ -4,9 +4,9 @@ ghost use Rattle.member_pairs.specs.Vectors.{Exact, EnclosesVector};
 ghost use Rattle.stress_terms.specs.Combined.{EnclosesStress};
 ghost use Rattle.code_stress.specs.Action.{EnclosesForce, EnclosesMoment};
 ghost use Rattle.code_stress.specs.Direct.{IsPressure};
-ghost use Rattle.code_stress.specs.Station.{StationInForm, ExactStation, EnclosesStation, EnclosesNormal, direct_stress, direct_stress_of, plane_square, plane_square_of, bending_square, bending_square_of, torsion_stress, station_stress_of};
+ghost use Rattle.code_stress.specs.Station.{StationInForm, ExactStation, EnclosesStation, EnclosesNormal, direct_stress, direct_stress_of, plane_square, plane_square_of, bending_stress_square, bending_stress_square_of, torsion_stress, station_stress_of};
 
-use crate::action::{dot, force_vector, moment_vector};
+use crate::action::{force_vector, inner_product, moment_vector};
 use crate::bend::{in_plane, out_of_plane};
 use crate::direct::with_pressure;
 use crate::straight::{about, straight_square};
@@ -40,11 +40,11 @@ pub fn station_stress(f: [Iv; 6], s: &StationData, sustained: Option<i64>) -> Re
     requires pressure { IfSome sustained IsPressure }
     ensures value { result ≡ station_stress_of f s.now sustained }
     ensures encloses { IfOk result (λ e. (x : ExactStation) → EnclosesStation f s.now x →
-        EnclosesStress (direct_stress x s.now.section sustained) (bending_square x (is_some sustained)) (torsion_stress x) e) }
+        EnclosesStress (direct_stress x s.now.section sustained) (bending_stress_square x (is_some sustained)) (torsion_stress x) e) }
 {
     let moment = moment_vector(&f);
     let direct = direct_stress(&force_vector(&f), s, sustained)?;
-    let bending = bending_square(&moment, s, sustained.is_some())?;
+    let bending = bending_stress_square(&moment, s, sustained.is_some())?;
     let torsion = about(&moment, &s.tangent, s.section.modulus)?;
     combined(direct, bending, torsion)
 }
@@ -59,17 +59,17 @@ fn direct_stress(force: &[Iv; 3], s: &StationData, sustained: Option<i64>) -> Re
         Within e (direct_stress x s.now.section sustained)) }
     ensures from_zero { IfOk result (λ e. pos 0 ≤ℤ e.lo) }
 {
-    let along = dot(force, &s.tangent)?;
+    let along = inner_product(force, &s.tangent)?;
     let stress = axial(along, s.section.area)?;
     with_pressure(stress, &s.section, sustained)
 }
 
 /// The square of the bending stress.
-fn bending_square(moment: &[Iv; 3], s: &StationData, sustained: bool) -> Result<Iv, IvFault>
+fn bending_stress_square(moment: &[Iv; 3], s: &StationData, sustained: bool) -> Result<Iv, IvFault>
     requires { StationInForm s.now }
-    ensures value { result ≡ bending_square_of moment.now s.now sustained }
+    ensures value { result ≡ bending_stress_square_of moment.now s.now sustained }
     ensures within { IfOk result (λ e. (x : ExactStation) → EnclosesVector moment.now x.moment → EnclosesVector s.now.tangent x.tangent → EnclosesNormal s.now.normal x.normal →
-        Within s.now.section.modulus x.modulus → Within s.now.bending x.bending → Within s.now.ii x.ii → Within s.now.io x.io → Within e (bending_square x sustained)) }
+        Within s.now.section.modulus x.modulus → Within s.now.bending x.bending → Within s.now.ii x.ii → Within s.now.io x.io → Within e (bending_stress_square x sustained)) }
     ensures from_zero { IfOk result (λ e. pos 0 ≤ℤ e.lo) }
 {
     match &s.normal {

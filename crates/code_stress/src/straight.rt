@@ -3,7 +3,7 @@ ghost use Rattle.flex_interval.specs.Fraction.{Fraction, Within, times};
 ghost use Rattle.member_pairs.specs.Vectors.{Exact, EnclosesVector};
 ghost use Rattle.code_stress.specs.Straight.{about, about_of, straight_square, straight_square_of, about_square_of};
 
-use crate::action::dot;
+use crate::action::inner_product;
 use flex_interval::{Iv, IvFault};
 use member_pairs::{crossed_x, crossed_y, crossed_z};
 use stress_terms::{bending, squared, sum};
@@ -43,6 +43,6 @@ pub fn about(moment: &[Iv; 3], axis: &[Iv; 3], modulus: Iv) -> Result<Iv, IvFaul
     ensures within { IfOk result (λ e. (m q : Exact) (z : Fraction) → EnclosesVector moment.now m → EnclosesVector axis.now q → Within modulus z → Within e (about m q z)) }
     ensures from_zero { IfOk result (λ e. pos 0 ≤ℤ e.lo) }
 {
-    let part = dot(moment, axis)?;
+    let part = inner_product(moment, axis)?;
     bending(part, modulus)
 }

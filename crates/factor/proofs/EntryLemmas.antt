@@ -11,7 +11,7 @@ use Rattle.int_laws.proofs.Products.{square_nonnegative}
 use Rattle.int_laws.specs.Division.{nearest_of}
 use Rattle.int_laws.proofs.RootLemmas.{root_bounds}
 use Rattle.int_laws.specs.Root.{root_of}
-use Rattle.factor.specs.Panel.{by_rows, dot_of, left_in_row}
+use Rattle.factor.specs.Panel.{by_rows, partial_product, left_in_row}
 use Rattle.factor.proofs.CastLemmas.{wide_is, narrow_is, fits_narrow}
 
 not_low : (p : ℤ) → int_lt p (pos 1) ≡ false → pos 1 ≤ℤ p
@@ -60,9 +60,9 @@ pub quotient_large_high : (exact q : ℤ) → q ≡ exact → SFits w128 q → i
 quotient_large_high exact q is fits test = rw (← is) (at_limit_high q (rw (to_z-of_z w128 q fits) at test))
 
 -- the products of parts of a list
-pub sliced_dot : (xs : List ℤ) (c m n i j : ℕ) → length (take m (drop i xs)) ≡ c → c ≤ m → c ≤ n → dot_of (length (take m (drop i xs))) (take m (drop i xs)) (take n (drop j xs)) ≡ sum_below c (λ k. get_or xs (i + k) (pos 0) *ℤ get_or xs (j + k) (pos 0))
+pub sliced_dot : (xs : List ℤ) (c m n i j : ℕ) → length (take m (drop i xs)) ≡ c → c ≤ m → c ≤ n → partial_product (length (take m (drop i xs))) (take m (drop i xs)) (take n (drop j xs)) ≡ sum_below c (λ k. get_or xs (i + k) (pos 0) *ℤ get_or xs (j + k) (pos 0))
 sliced_dot xs c m n i j len within within' =
-    ap (λ x. dot_of x (take m (drop i xs)) (take n (drop j xs))) len
+    ap (λ x. partial_product x (take m (drop i xs)) (take n (drop j xs))) len
     ∙ sum_below-same c _ _ (λ k lt.
     ap (λ z. z *ℤ get_or (take n (drop j xs)) k (pos 0)) (get_or-take m (drop i xs) k (pos 0) (omega arith) ∙ get_or-drop i xs k (pos 0))
     ∙ ap (λ z. get_or xs (i + k) (pos 0) *ℤ z) (get_or-take n (drop j xs) k (pos 0) (omega arith) ∙ get_or-drop j xs k (pos 0)))
@@ -82,7 +82,7 @@ left_in_row-diagonal left entries row column e small =
     subst P (sym e) (omega (arith, int_sums))
 
 -- what is left in a row and column
-pub taken_is : (left : ℤ) (entries : List ℤ) (row column : ℕ) (taken : ℤ) → length entries ≡ 6 * row + column → unsigned_abs left < 2 ^ 126 → taken ≡ dot_of (length (take (length entries - 6 * row) (drop (6 * row) entries))) (take (length entries - 6 * row) (drop (6 * row) entries)) (take (6 * column + column - 6 * column) (drop (6 * column) entries)) → unsigned_abs taken < 2 ^ 117 → to_z w128 (of_z w128 (to_z w128 (of_z w128 left) -ℤ to_z w128 (of_z w128 taken))) ≡ left_in_row left entries row column
+pub taken_is : (left : ℤ) (entries : List ℤ) (row column : ℕ) (taken : ℤ) → length entries ≡ 6 * row + column → unsigned_abs left < 2 ^ 126 → taken ≡ partial_product (length (take (length entries - 6 * row) (drop (6 * row) entries))) (take (length entries - 6 * row) (drop (6 * row) entries)) (take (6 * column + column - 6 * column) (drop (6 * column) entries)) → unsigned_abs taken < 2 ^ 117 → to_z w128 (of_z w128 (to_z w128 (of_z w128 left) -ℤ to_z w128 (of_z w128 taken))) ≡ left_in_row left entries row column
 taken_is left entries row column taken whole small is taken-small =
     let len : length (take (length entries - 6 * row) (drop (6 * row) entries)) ≡ column =
     omega (arith, whole, length-take (length entries - 6 * row) (drop (6 * row) entries), length-drop (6 * row) entries)

@@ -10,7 +10,7 @@ use Rattle.int_laws.proofs.SumLaws.{sum_below-same, sum_below-zero}
 use Rattle.lists.specs.Rising.{IsRising}
 use Rattle.lists.specs.Order.{place_of}
 use Rattle.lists.proofs.PlaceLemmas.{place_of-at, at_place_of}
-use Rattle.factor.specs.Panel.{kept_for, dot_of}
+use Rattle.factor.specs.Panel.{kept_for, partial_product}
 use Rattle.factor.specs.Gather.{products_at, entry_products, block_product, UpdatesBlock}
 use Rattle.factor.proofs.EntryLemmas.{sliced_dot, rest_is}
 use Rattle.factor.proofs.CastLemmas.{wide_is}
@@ -36,7 +36,7 @@ raised_more old cur base t by y in' done is = (
 )
 
 -- the products that are taken off
-pub products_are : (entries : List ℤ) (row column t : ℕ) → 36 * row + 36 ≤ length entries → t < 36 → dot_of (length (take (36 * row + 6 * (t / 6) + 6 - (36 * row + 6 * (t / 6))) (drop (36 * row + 6 * (t / 6)) entries))) (take (36 * row + 6 * (t / 6) + 6 - (36 * row + 6 * (t / 6))) (drop (36 * row + 6 * (t / 6)) entries)) (take (36 * column + 6 * (t % 6) + 6 - (36 * column + 6 * (t % 6))) (drop (36 * column + 6 * (t % 6)) entries)) ≡ products_at entries row column t
+pub products_are : (entries : List ℤ) (row column t : ℕ) → 36 * row + 36 ≤ length entries → t < 36 → partial_product (length (take (36 * row + 6 * (t / 6) + 6 - (36 * row + 6 * (t / 6))) (drop (36 * row + 6 * (t / 6)) entries))) (take (36 * row + 6 * (t / 6) + 6 - (36 * row + 6 * (t / 6))) (drop (36 * row + 6 * (t / 6)) entries)) (take (36 * column + 6 * (t % 6) + 6 - (36 * column + 6 * (t % 6))) (drop (36 * column + 6 * (t % 6)) entries)) ≡ products_at entries row column t
 products_are entries row column t in' lt =
     let left = 36 * row + 6 * (t / 6) in
     let right = 36 * column + 6 * (t % 6) in

@@ -18,7 +18,7 @@ use Rattle.cholesky_laws.specs.Breakdown.{Passes, squares}
 use Rattle.factor.specs.Panel.{IsPanel, kept_for}
 use Rattle.factor.specs.Gather.{block_product}
 use Rattle.factor.specs.Front.{IsScattered}
-use Rattle.factor.specs.State.{matrix_of, IsFront, HoldsLeft}
+use Rattle.factor.specs.State.{shifted_matrix, IsFront, HoldsLeft}
 use Rattle.factor.specs.declared.panel.Panel.{Panel}
 use Rattle.factor.proofs.GatherLemmas.{kept_for-past}
 use Rattle.factor.proofs.GapLemmas.{carried}
@@ -73,7 +73,7 @@ none_outside_row_pattern a parents size n d reached entries sums lt in' panel ab
     ∙ kept_for-past 36 reached entries n (6 * r + c) (omega (arith, panel.whole)) (omega (arith, place_of-absent reached n absent))
 
 -- outside the pattern a scaled stiffness is 0
-outside_none : (k : Matrix) (order : List ℕ) (shift : ℤ) (q n r c : ℕ) → IsSymmetricByBlocks k → r < 6 → c < 6 → (q ≡ n → ⊥) → (HasBlock k (get_or order q 0) (get_or order n 0) → ⊥) → matrix_of k order shift (6 * q + r) (6 * n + c) ≡ pos 0
+outside_none : (k : Matrix) (order : List ℕ) (shift : ℤ) (q n r c : ℕ) → IsSymmetricByBlocks k → r < 6 → c < 6 → (q ≡ n → ⊥) → (HasBlock k (get_or order q 0) (get_or order n 0) → ⊥) → shifted_matrix k order shift (6 * q + r) (6 * n + c) ≡ pos 0
 unfolding scaled_stiffness
 outside_none k order shift q n r c kept rl cl apart absent =
     let i = 6 * q + r in
@@ -90,9 +90,9 @@ outside_none k order shift q n r c kept rl cl apart absent =
     ∙ ap (λ z. pos (2 ^ 52) *ℤ (z -ℤ pos 0)) none
 
 -- the entries that are scattered are those of the matrix
-pub scattered_holds : RecurrenceLaws → (k : Matrix) (order : List ℕ) (parents : List (Option ℕ)) (shift : ℤ) (panels : List Panel) (row_pattern nodes : List ℕ) (n : ℕ) (work : List ℤ) → n < length order → IsFront k order parents panels row_pattern n nodes → IsScattered (matrix_of k order shift) nodes n work → HoldsLeft (matrix_of k order shift) (length order) n nodes work 0
+pub scattered_holds : RecurrenceLaws → (k : Matrix) (order : List ℕ) (parents : List (Option ℕ)) (shift : ℤ) (panels : List Panel) (row_pattern nodes : List ℕ) (n : ℕ) (work : List ℤ) → n < length order → IsFront k order parents panels row_pattern n nodes → IsScattered (shifted_matrix k order shift) nodes n work → HoldsLeft (shifted_matrix k order shift) (length order) n nodes work 0
 scattered_holds laws k order parents shift panels row_pattern nodes n work in' front scattered q t nq qs tl =
-    let a = matrix_of k order shift in
+    let a = shifted_matrix k order shift in
     let p = place_of q nodes in
     elim (cases_lt p (length nodes)) [
       | inl lt ↦

@@ -5,7 +5,7 @@ use Rattle.std.specs.Int.{w128}
 use Rattle.std.specs.Int.RustNames.{unsigned_abs}
 use Rattle.std.proofs.lemmas.Bool.{cases_eq}
 use Rattle.std.proofs.lemmas.List.{get_or-set_same, get_or-set_other, length-take, length-drop}
-use Rattle.factor.specs.Panel.{dot_of}
+use Rattle.factor.specs.Panel.{partial_product}
 use Rattle.factor.specs.Squares.{total_squares}
 use Rattle.factor.proofs.EntryLemmas.{sliced_dot}
 use Rattle.factor.proofs.GatherLemmas.{put_on}
@@ -17,7 +17,7 @@ pub record IsTotalledTo (old cur entries : List ℤ) (row : ℕ) : Type 0 where
   pub narrow : (r : ℕ) → 6 ≤ r → r < row → total_squares old entries r <ℤ pos (2 ^ 113)
 
 -- a row's total, as it is computed
-pub total_is : (old cur entries : List ℤ) (row : ℕ) (own : ℤ) → IsTotalledTo old cur entries row → 6 * row + 6 ≤ length entries → unsigned_abs (get_or old row (pos 0)) < 2 ^ 126 → own ≡ dot_of (length (take (6 * row + 6 - 6 * row) (drop (6 * row) entries))) (take (6 * row + 6 - 6 * row) (drop (6 * row) entries)) (take (6 * row + 6 - 6 * row) (drop (6 * row) entries)) → unsigned_abs own < 2 ^ 117 → to_z w128 (of_z w128 (to_z w128 (of_z w128 (get_or cur row (pos 0))) +ℤ to_z w128 (of_z w128 own))) ≡ total_squares old entries row
+pub total_is : (old cur entries : List ℤ) (row : ℕ) (own : ℤ) → IsTotalledTo old cur entries row → 6 * row + 6 ≤ length entries → unsigned_abs (get_or old row (pos 0)) < 2 ^ 126 → own ≡ partial_product (length (take (6 * row + 6 - 6 * row) (drop (6 * row) entries))) (take (6 * row + 6 - 6 * row) (drop (6 * row) entries)) (take (6 * row + 6 - 6 * row) (drop (6 * row) entries)) → unsigned_abs own < 2 ^ 117 → to_z w128 (of_z w128 (to_z w128 (of_z w128 (get_or cur row (pos 0))) +ℤ to_z w128 (of_z w128 own))) ≡ total_squares old entries row
 total_is old cur entries row own done in' small is own-small =
     let len : length (take (6 * row + 6 - 6 * row) (drop (6 * row) entries)) ≡ 6 = omega (arith, length-take (6 * row + 6 - 6 * row) (drop (6 * row) entries), length-drop (6 * row) entries, in') in
     let squares = is ∙ sliced_dot entries 6 (6 * row + 6 - 6 * row) (6 * row + 6 - 6 * row) (6 * row) (6 * row) len (omega arith) (omega arith) in

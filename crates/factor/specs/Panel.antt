@@ -12,8 +12,8 @@ abbrev pub AllSmall : List ℤ → Type 0
 AllSmall xs = All (λ x. unsigned_abs x < 2 ^ 57) xs
 
 -- the sum of the products of two lists' first n numbers
-abbrev pub dot_of : ℕ → List ℤ → List ℤ → ℤ
-dot_of n xs ys = sum_below n (λ k. slice_index_or xs k (pos 0) *ℤ slice_index_or ys k (pos 0))
+abbrev pub partial_product : ℕ → List ℤ → List ℤ → ℤ
+partial_product n xs ys = sum_below n (λ k. slice_index_or xs k (pos 0) *ℤ slice_index_or ys k (pos 0))
 
 -- number s of those kept for node q, `width` for each node of a list; 0 where it does not list q
 abbrev pub kept_for : ℕ → List ℕ → List ℤ → ℕ → ℕ → ℤ

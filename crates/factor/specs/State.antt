@@ -13,8 +13,8 @@ use Rattle.factor.specs.Panel.{IsPanel, kept_for}
 use Rattle.factor.specs.declared.panel.Panel.{Panel}
 
 -- the matrix that is factorised
-abbrev pub matrix_of : Matrix → List ℕ → ℤ → ℕ → ℕ → ℤ
-matrix_of k order shift = scaled_stiffness (stiffness k) order shift
+abbrev pub shifted_matrix : Matrix → List ℕ → ℤ → ℕ → ℕ → ℤ
+shifted_matrix k order shift = scaled_stiffness (stiffness k) order shift
 
 -- what is factorised is within the limits
 pub record IsProblem (k : Matrix) (order : List ℕ) (parents : List (Option ℕ)) (shift : ℤ) : Type 0 where

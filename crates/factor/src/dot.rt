@@ -1,6 +1,6 @@
 ghost use Rattle.std.specs.Prelude.{◌≡◌, ◌^◌, ◌<◌, ◌≤◌, ◌*ℤ◌, length};
 ghost use Rattle.std.specs.Int.RustNames.{unsigned_abs};
-ghost use Rattle.factor.specs.Panel.{AllSmall, dot_of};
+ghost use Rattle.factor.specs.Panel.{AllSmall, partial_product};
 
 // The sum of the products of two rows of up to six factor entries.
 pub fn dot(left: &[i64], right: &[i64]) -> i128
@@ -8,7 +8,7 @@ pub fn dot(left: &[i64], right: &[i64]) -> i128
     requires same { length right.now ≡ length left.now }
     requires left_small { AllSmall left.now }
     requires right_small { AllSmall right.now }
-    ensures value { result ≡ dot_of (length left.now) left.now right.now }
+    ensures value { result ≡ partial_product (length left.now) left.now right.now }
     ensures small { unsigned_abs result < 2 ^ 117 }
 {
     let mut sum = 0;

@@ -1,5 +1,5 @@
 ghost use Rattle.std.specs.Prelude.{◌≡◌, ℕ, ◌+◌, ◌*◌, ◌<◌, ◌≤◌, IfOk, MatchResult, length, slice_index, []};
-ghost use Rattle.factor.specs.State.{IsProblem, matrix_of, ArePanels, IsRowPattern, IsFront, IsNodePanel, IsSchurComplement, AreChildSums, IsWithParent};
+ghost use Rattle.factor.specs.State.{IsProblem, shifted_matrix, ArePanels, IsRowPattern, IsFront, IsNodePanel, IsSchurComplement, AreChildSums, IsWithParent};
 ghost use Rattle.elimination.specs.Elimination.{is_parent};
 ghost use Rattle.factor.specs.Scalar.{IsBreakdownAt, fault_of};
 
@@ -34,11 +34,11 @@ pub fn eliminate_node(
 ) -> Result<Panel, ScalarFault>
     requires problem { IsProblem problem.now.matrix.now problem.now.order.now problem.now.parents.now problem.now.shift }
     requires node_in { node < length problem.now.order.now }
-    requires panels { ArePanels (matrix_of problem.now.matrix.now problem.now.order.now problem.now.shift) problem.now.parents.now (length problem.now.order.now) node panels.now }
+    requires panels { ArePanels (shifted_matrix problem.now.matrix.now problem.now.order.now problem.now.shift) problem.now.parents.now (length problem.now.order.now) node panels.now }
     requires row_pattern { IsRowPattern panels.now node node row_pattern.now }
     ensures { MatchResult result
-        (λ p. IsNodePanel (matrix_of problem.now.matrix.now problem.now.order.now problem.now.shift) problem.now.parents.now (length problem.now.order.now) node p.nodes.items p.entries.items p.sums.items)
-        (IsBreakdownAt (matrix_of problem.now.matrix.now problem.now.order.now problem.now.shift) problem.now.order.now problem.now.parents.now node) }
+        (λ p. IsNodePanel (shifted_matrix problem.now.matrix.now problem.now.order.now problem.now.shift) problem.now.parents.now (length problem.now.order.now) node p.nodes.items p.entries.items p.sums.items)
+        (IsBreakdownAt (shifted_matrix problem.now.matrix.now problem.now.order.now problem.now.shift) problem.now.order.now problem.now.parents.now node) }
 {
     recurrence_keeps_laws();
     let nodes = front(alloc, problem, panels, row_pattern, node)?;
@@ -71,7 +71,7 @@ fn front(
 ) -> Result<Vec<u32>, AllocError>
     requires problem { IsProblem problem.now.matrix.now problem.now.order.now problem.now.parents.now problem.now.shift }
     requires node_in { node < length problem.now.order.now }
-    requires panels { ArePanels (matrix_of problem.now.matrix.now problem.now.order.now problem.now.shift) problem.now.parents.now (length problem.now.order.now) node panels.now }
+    requires panels { ArePanels (shifted_matrix problem.now.matrix.now problem.now.order.now problem.now.shift) problem.now.parents.now (length problem.now.order.now) node panels.now }
     requires row_pattern { IsRowPattern panels.now node node row_pattern.now }
     ensures { IfOk result (λ nodes. IsFront problem.now.matrix.now problem.now.order.now problem.now.parents.now panels.now row_pattern.now node nodes.items) }
 {
@@ -121,10 +121,10 @@ fn schur_complement(
 ) -> Result<Vec<i128>, AllocError>
     requires problem { IsProblem problem.now.matrix.now problem.now.order.now problem.now.parents.now problem.now.shift }
     requires node_in { node < length problem.now.order.now }
-    requires panels { ArePanels (matrix_of problem.now.matrix.now problem.now.order.now problem.now.shift) problem.now.parents.now (length problem.now.order.now) node panels.now }
+    requires panels { ArePanels (shifted_matrix problem.now.matrix.now problem.now.order.now problem.now.shift) problem.now.parents.now (length problem.now.order.now) node panels.now }
     requires row_pattern { IsRowPattern panels.now node node row_pattern.now }
     requires front { IsFront problem.now.matrix.now problem.now.order.now problem.now.parents.now panels.now row_pattern.now node nodes.now }
-    ensures { IfOk result (λ work. IsSchurComplement (matrix_of problem.now.matrix.now problem.now.order.now problem.now.shift) (length problem.now.order.now) node nodes.now work.items) }
+    ensures { IfOk result (λ work. IsSchurComplement (shifted_matrix problem.now.matrix.now problem.now.order.now problem.now.shift) (length problem.now.order.now) node nodes.now work.items) }
 {
     recurrence_keeps_laws();
     let mut work = scatter(alloc, problem, nodes, node)?;
@@ -146,10 +146,10 @@ fn child_sums(
 ) -> Result<Vec<i128>, AllocError>
     requires problem { IsProblem problem.now.matrix.now problem.now.order.now problem.now.parents.now problem.now.shift }
     requires node_in { node < length problem.now.order.now }
-    requires panels { ArePanels (matrix_of problem.now.matrix.now problem.now.order.now problem.now.shift) problem.now.parents.now (length problem.now.order.now) node panels.now }
+    requires panels { ArePanels (shifted_matrix problem.now.matrix.now problem.now.order.now problem.now.shift) problem.now.parents.now (length problem.now.order.now) node panels.now }
     requires row_pattern { IsRowPattern panels.now node node row_pattern.now }
     requires front { IsFront problem.now.matrix.now problem.now.order.now problem.now.parents.now panels.now row_pattern.now node nodes.now }
-    ensures { IfOk result (λ sums. AreChildSums (matrix_of problem.now.matrix.now problem.now.order.now problem.now.shift) problem.now.parents.now (length problem.now.order.now) node nodes.now sums.items) }
+    ensures { IfOk result (λ sums. AreChildSums (shifted_matrix problem.now.matrix.now problem.now.order.now problem.now.shift) problem.now.parents.now (length problem.now.order.now) node nodes.now sums.items) }
 {
     recurrence_keeps_laws();
     let mut sums = vec![in alloc; 0; 6 * nodes.len()]?;

@@ -4,7 +4,7 @@ ghost use Rattle.lists.specs.Rising.{IsRising};
 ghost use Rattle.lists.specs.Lists.{contents, list_of, ListsInAll};
 ghost use Rattle.sym_blocks.specs.Matrix.{node_count, entry};
 ghost use Rattle.lists.specs.Order.{IsOrder};
-ghost use Rattle.factor.specs.State.{IsProblem, matrix_of};
+ghost use Rattle.factor.specs.State.{IsProblem, shifted_matrix};
 ghost use Rattle.elimination.specs.Elimination.{AreParents};
 ghost use Rattle.factor.specs.Columns.{ArePanelShapes, HasColumns, AreColumnRows, AreColumnValues};
 ghost use Rattle.factor_data.specs.Columns.{HasDiagonal};
@@ -40,8 +40,8 @@ pub fn scalar(
     requires parents_later { AreParents parents.now (length order.now) }
     ensures diagonal { IfOk result HasDiagonal }
     ensures factor { MatchResult result
-        (IsFactorOf (matrix_of k.now order.now shift) order.now parents.now)
-        (IsBreakdown (matrix_of k.now order.now shift) order.now parents.now) }
+        (IsFactorOf (shifted_matrix k.now order.now shift) order.now parents.now)
+        (IsBreakdown (shifted_matrix k.now order.now shift) order.now parents.now) }
 {
     recurrence_keeps_laws();
     let permutation = Permutation::new(alloc, Vec::from_slice(alloc, order)?)?;
@@ -58,8 +58,8 @@ pub fn scalar(
 fn eliminate_all(alloc: Global, problem: &Problem) -> Result<Factor, ScalarFault>
     requires { IsProblem problem.now.matrix.now problem.now.order.now problem.now.parents.now problem.now.shift }
     ensures { MatchResult result
-        (IsFactorOf (matrix_of problem.now.matrix.now problem.now.order.now problem.now.shift) problem.now.order.now problem.now.parents.now)
-        (IsBreakdown (matrix_of problem.now.matrix.now problem.now.order.now problem.now.shift) problem.now.order.now problem.now.parents.now) }
+        (IsFactorOf (shifted_matrix problem.now.matrix.now problem.now.order.now problem.now.shift) problem.now.order.now problem.now.parents.now)
+        (IsBreakdown (shifted_matrix problem.now.matrix.now problem.now.order.now problem.now.shift) problem.now.order.now problem.now.parents.now) }
 {
     recurrence_keeps_laws();
     let mut row_patterns = empty_lists(alloc, problem.order.len())?;

@@ -1,7 +1,7 @@
 ghost use Rattle.std.specs.Prelude.{◌≡◌, ℕ, ◌+◌, ◌*◌, ◌/◌, ◌%◌, ◌<◌, ◌≤◌, All, IfOk, length, slice_index, slice_index_or, pos};
 ghost use Rattle.std.specs.Int.RustNames.{unsigned_abs};
 ghost use Rattle.lists.specs.Rows.{freedom_at};
-ghost use Rattle.factor.specs.State.{IsProblem, matrix_of};
+ghost use Rattle.factor.specs.State.{IsProblem, shifted_matrix};
 ghost use Rattle.factor.specs.Front.{IsScattered};
 
 use lists::Permutation;
@@ -31,7 +31,7 @@ pub fn scatter(
     requires nodes_in { All (λ q. q < length problem.now.order.now) nodes.now }
     requires few { length nodes.now ≤ 8000 }
     requires node_in { node < length problem.now.order.now }
-    ensures { IfOk result (λ work. IsScattered (matrix_of problem.now.matrix.now problem.now.order.now problem.now.shift) nodes.now node work.items) }
+    ensures { IfOk result (λ work. IsScattered (shifted_matrix problem.now.matrix.now problem.now.order.now problem.now.shift) nodes.now node work.items) }
 {
     let mut work = Vec::with_capacity(alloc, 36 * nodes.len())?;
     for s in 0..36 * nodes.len() {
@@ -47,7 +47,7 @@ fn scaled_entry(problem: &Problem, i: u32, j: u32) -> i128
     requires problem { IsProblem problem.now.matrix.now problem.now.order.now problem.now.parents.now problem.now.shift }
     requires i_in { i < 6 * length problem.now.order.now }
     requires j_in { j < 6 * length problem.now.order.now }
-    ensures { result ≡ matrix_of problem.now.matrix.now problem.now.order.now problem.now.shift i j }
+    ensures { result ≡ shifted_matrix problem.now.matrix.now problem.now.order.now problem.now.shift i j }
 {
     let stiffness = problem
         .matrix

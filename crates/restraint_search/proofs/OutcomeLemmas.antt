@@ -3,7 +3,7 @@ use Rattle.std.proofs.Common.{◌≡◌, ℕ, suc, List, Bool, refl, sym, ap, su
 use Rattle.restraint_search.specs.declared.trial.TrialFault.{TrialFault}
 use Rattle.restraint_search.specs.Trials.{Finding, Failing, SomeViolated}
 use Rattle.restraint_search.specs.Outcomes.{EndsAt, FailsIn}
-use Rattle.restraint_search.specs.Determined.{IsDecided, Outcome, ends_at, runs_out, fails_in, IsOutcome}
+use Rattle.restraint_search.specs.Determined.{IsDecided, SearchOutcome, ends_at, runs_out, fails_in, IsOutcome}
 use Rattle.restraint_search.proofs.TurnsLemmas.{Stops, stops_before, stops_once}
 
 ending_stops : (finds : Finding) (fails : Failing) (start states : List Bool) → IsDecided finds fails → (ends : EndsAt finds start states) → Stops finds start ends.0 states
@@ -18,7 +18,7 @@ failing_stops finds fails start turn fault decided (turns, states, is, within, m
   no_more = λ violated found some. decided.not_both states violated fault found fails_here;
 }
 
-pub one_outcome : (finds : Finding) (fails : Failing) (start : List Bool) → IsDecided finds fails → (x y : Outcome) → IsOutcome finds fails start x → IsOutcome finds fails start y → x ≡ y
+pub one_outcome : (finds : Finding) (fails : Failing) (start : List Bool) → IsDecided finds fails → (x y : SearchOutcome) → IsOutcome finds fails start x → IsOutcome finds fails start y → x ≡ y
 one_outcome finds fails start decided (ends_at s) (ends_at t) x y =
     ap ends_at (stops_once finds fails start x.0 y.0 s t decided (ending_stops finds fails start s decided x) (ending_stops finds fails start t decided y)).1
 one_outcome finds fails start decided runs_out runs_out x y = refl

@@ -10,12 +10,12 @@ pub record IsDecided (finds : Finding) (fails : Failing) : Type 0 where
   pub one_fault : (states : List Bool) (f g : TrialFault) → fails states f → fails states g → f ≡ g
   pub not_both : (states v : List Bool) (f : TrialFault) → finds states v → fails states f → ⊥
 
-pub data Outcome : Type 0 where
-  ends_at : List Bool → Outcome
-  runs_out : Outcome
-  fails_in : ℕ → TrialFault → Outcome
+pub data SearchOutcome : Type 0 where
+  ends_at : List Bool → SearchOutcome
+  runs_out : SearchOutcome
+  fails_in : ℕ → TrialFault → SearchOutcome
 
-abbrev pub IsOutcome : Finding → Failing → List Bool → Outcome → Type 0
+abbrev pub IsOutcome : Finding → Failing → List Bool → SearchOutcome → Type 0
 IsOutcome finds fails start (ends_at states) = EndsAt finds start states
 IsOutcome finds fails start runs_out = RunsOut finds start
 IsOutcome finds fails start (fails_in turn fault) = FailsIn finds fails start turn fault
@@ -23,4 +23,4 @@ IsOutcome finds fails start (fails_in turn fault) = FailsIn finds fails start tu
 -- where a trial's meaning is decided, any two outcomes of a search are one
 abbrev pub HasOneOutcome : Finding → Failing → List Bool → Type 0
 HasOneOutcome finds fails start =
-    IsDecided finds fails → (x y : Outcome) → IsOutcome finds fails start x → IsOutcome finds fails start y → x ≡ y
+    IsDecided finds fails → (x y : SearchOutcome) → IsOutcome finds fails start x → IsOutcome finds fails start y → x ≡ y

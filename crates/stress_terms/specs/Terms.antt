@@ -29,8 +29,8 @@ intensified moment index modulus = stress (times (magnitude moment) index 30) (p
 unfoldable pub stress_of : Ends → ℤ → Ends → Result Ends IvFault
 stress_of load unit property = and_then (ratio_of load unit (pos 256)) (λ whole. div_of whole property 0)
 
-unfoldable pub axial_of : Ends → Ends → Result Ends IvFault
-axial_of force area = stress_of (abs_of force) (pos (10 ^ 12)) area
+unfoldable pub axial_stress_of : Ends → Ends → Result Ends IvFault
+axial_stress_of force area = stress_of (abs_of force) (pos (10 ^ 12)) area
 
 unfoldable pub bending_of : Ends → Ends → Result Ends IvFault
 bending_of moment modulus = stress_of (abs_of moment) (pos (10 ^ 18)) modulus

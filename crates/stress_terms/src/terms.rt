@@ -1,6 +1,6 @@
 ghost use Rattle.std.specs.Prelude.{◌≡◌, pos, ◌≤ℤ◌, ◌<ℤ◌, IfOk};
 ghost use Rattle.flex_interval.specs.Fraction.{Fraction, Within};
-ghost use Rattle.stress_terms.specs.Terms.{stress_of, axial_of, bending_of, intensified_of, stress, axial, bending, intensified};
+ghost use Rattle.stress_terms.specs.Terms.{stress_of, axial_stress_of, bending_of, intensified_of, stress, axial, bending, intensified};
 
 use crate::sizes::{product, size};
 use flex_interval::{Iv, IvFault, div, ratio};
@@ -12,10 +12,10 @@ const AREA_UNIT: i128 = 1_000_000_000_000;
 const MODULUS_UNIT: i128 = 1_000_000_000_000_000_000;
 
 /// A force over an area, in units of 2^-16 Pa: the force in 2^-40 N, the area in 2^-16 square micrometre and above 0.
-#[tactic(auto, unfolding(crate::specs::Terms::axial_of, crate::specs::Terms::axial))]
+#[tactic(auto, unfolding(crate::specs::Terms::axial_stress_of, crate::specs::Terms::axial))]
 pub fn axial(force: Iv, area: Iv) -> Result<Iv, IvFault>
     requires { pos 0 <ℤ area.lo }
-    ensures value { result ≡ axial_of force area }
+    ensures value { result ≡ axial_stress_of force area }
     ensures within { IfOk result (λ e. (f a : Fraction) → Within force f → Within area a → Within e (axial f a)) }
     ensures from_zero { IfOk result (λ e. pos 0 ≤ℤ e.lo) }
 {

@@ -4,7 +4,7 @@ use Rattle.std.specs.Vec.{with_items}
 use Rattle.std.proofs.lemmas.List.{with_items_is, length-replicate}
 use Rattle.std.proofs.lemmas.List.Elements.{Contains-get_or}
 use Rattle.factor.specs.Panel.{kept_for}
-use Rattle.factor.specs.State.{matrix_of, HoldsChildren, nodes_at, entries_at, sums_at}
+use Rattle.factor.specs.State.{shifted_matrix, HoldsChildren, nodes_at, entries_at, sums_at}
 use Rattle.factor.proofs.GapLemmas.{IsGap, gap_at, gap_end}
 use Rattle.factor.proofs.RowPatternLemmas.{nodes_read, sums_read, below, earlier_at, within_front}
 use Rattle.factor.proofs.ChildLemmas.{children_none, children_skip, children_next, children_first, children_after, children_small, panel_sums_small}
@@ -14,7 +14,7 @@ use Rattle.factor.proofs.panel.child_sums.Goals.{then-is_child, else-is_child}
 pub loop-earlier-init : goal.loop-earlier-init
 loop-earlier-init c =
     let p = c.args.problem.now in
-    let a = matrix_of p.matrix.now p.order.now p.shift in
+    let a = shifted_matrix p.matrix.now p.order.now p.shift in
     let zeros : c.in_ok-sums.sums.items ≡ replicate (6 * length c.args.nodes.now) (pos 0) = c.in_ok-sums.ensures.items_if_clones_equal (λ y h. h) in (
       omega (arith, ap (λ (xs : List ℤ). length xs) zeros, length-replicate (6 * length c.args.nodes.now) (pos 0)),
       λ m gap. children_first a p.parents.now (length p.order.now) c.args.node m c.args.panels.now c.args.row_pattern.now c.args.nodes.now c.in_ok-sums.sums.items c.requires.panels c.requires.row_pattern
@@ -61,7 +61,7 @@ add_squares-requires-clause-squares_whole c =
 pub add_squares-requires-clause-squares_small : goal.add_squares-requires-clause-squares_small
 add_squares-requires-clause-squares_small c q r reaches le rl =
     let p = c.args.problem.now in
-    let a = matrix_of p.matrix.now p.order.now p.shift in
+    let a = shifted_matrix p.matrix.now p.order.now p.shift in
     let d = get_or c.args.row_pattern.now c.loop-earlier.earlier-index 0 in
     let earlier = earlier_at c.args.panels.now c.args.node c.args.node c.args.row_pattern.now c.loop-earlier.earlier-index c.requires.row_pattern c.loop-earlier-test.true in
     let lt : d < length c.args.panels.now = omega (arith, earlier.0, c.requires.panels.count) in
@@ -77,7 +77,7 @@ add_squares-requires-clause-squares_small c q r reaches le rl =
 pub add_squares-requires-clause-sums_small : goal.add_squares-requires-clause-sums_small
 add_squares-requires-clause-sums_small c =
     let p = c.args.problem.now in
-    let a = matrix_of p.matrix.now p.order.now p.shift in
+    let a = shifted_matrix p.matrix.now p.order.now p.shift in
     let i = c.loop-earlier.earlier-index in
     let d = get_or c.args.row_pattern.now i 0 in
     let earlier = earlier_at c.args.panels.now c.args.node c.args.node c.args.row_pattern.now i c.requires.row_pattern c.loop-earlier-test.true in
@@ -90,7 +90,7 @@ add_squares-requires-clause-sums_small c =
 pub loop-earlier-preserved : goal.loop-earlier-preserved
 loop-earlier-preserved c =
     let p = c.args.problem.now in
-    let a = matrix_of p.matrix.now p.order.now p.shift in
+    let a = shifted_matrix p.matrix.now p.order.now p.shift in
     let size = length p.order.now in
     let n = c.args.node in
     let nodes = c.args.nodes.now in

@@ -5,7 +5,7 @@ use Rattle.std.proofs.lemmas.List.{with_items_is}
 use Rattle.sym_blocks.specs.Matrix.{entry as stiffness}
 use Rattle.factor.specs.Panel.{by_rows}
 use Rattle.factor.specs.Eliminate.{IsEliminated, IsPanelBreakdown}
-use Rattle.factor.specs.State.{matrix_of}
+use Rattle.factor.specs.State.{shifted_matrix}
 use Rattle.factor.specs.Squares.{AddsSquares, HasWideSum}
 use Rattle.factor.proofs.LeftLemmas.{left_small}
 use Rattle.factor.proofs.ChildLemmas.{children_small}
@@ -15,7 +15,7 @@ use Rattle.factor.proofs.panel.eliminate_node.Goals as goal
 pub eliminate-requires-clause-small : goal.eliminate-requires-clause-small
 eliminate-requires-clause-small c =
     let p = c.args.problem.now in
-    let a = matrix_of p.matrix.now p.order.now p.shift in
+    let a = shifted_matrix p.matrix.now p.order.now p.shift in
     let q = c.requires.problem in
     let f = c.in_ok-nodes.ensures in
     let nodes = c.in_ok-nodes.nodes.items in
@@ -37,7 +37,7 @@ eliminate-requires-clause-diagonal c d dl =
 pub returns-in-Err : goal.returns-in-Err
 returns-in-Err c =
     let p = c.args.problem.now in
-    let a = matrix_of p.matrix.now p.order.now p.shift in
+    let a = shifted_matrix p.matrix.now p.order.now p.shift in
     let w = rw c.deref.ensures.value at c.in_ok-work.ensures in
     let P : List ℤ → Type 0 = λ xs. IsPanelBreakdown (by_rows xs) (length xs) c.in-Err.breakdown in
     rw c.fault_at.ensures
@@ -47,7 +47,7 @@ returns-in-Err c =
 pub add_own-requires-clause-sums_small : goal.add_own-requires-clause-sums_small
 add_own-requires-clause-sums_small c =
     let p = c.args.problem.now in
-    let a = matrix_of p.matrix.now p.order.now p.shift in
+    let a = shifted_matrix p.matrix.now p.order.now p.shift in
     let f = c.in_ok-nodes.ensures in
     let nodes = c.in_ok-nodes.nodes.items in
     let s = rw c.deref-3.ensures.value at c.in_ok-sums.ensures in

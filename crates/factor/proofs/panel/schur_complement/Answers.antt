@@ -7,7 +7,7 @@ use Rattle.lists.proofs.PlaceLemmas.{length-rising}
 use Rattle.sym_blocks.specs.Matrix.{entry}
 use Rattle.factor.specs.Panel.{kept_for, AllSmall}
 use Rattle.factor.specs.Gather.{block_product}
-use Rattle.factor.specs.State.{matrix_of, HoldsLeft, nodes_at, entries_at, sums_at}
+use Rattle.factor.specs.State.{shifted_matrix, HoldsLeft, nodes_at, entries_at, sums_at}
 use Rattle.factor.proofs.GapLemmas.{IsGap, gap_at, gap_end}
 use Rattle.factor.proofs.LeftLemmas.{holds_next, scattered_holds, left_small}
 use Rattle.factor.proofs.RowPatternLemmas.{nodes_read, entries_read, below, earlier_at, within_front, holds_first, holds_after}
@@ -22,7 +22,7 @@ scatter-requires-clause-few c =
 pub loop-earlier-init : goal.loop-earlier-init
 loop-earlier-init c =
     let p = c.args.problem.now in
-    let a = matrix_of p.matrix.now p.order.now p.shift in
+    let a = shifted_matrix p.matrix.now p.order.now p.shift in
     let start = scattered_holds c.recurrence_keeps_laws.ensures p.matrix.now p.order.now p.parents.now p.shift c.args.panels.now c.args.row_pattern.now c.args.nodes.now c.args.node c.in_ok-work.work.items c.requires.node_in c.requires.front c.in_ok-work.ensures in (
       c.in_ok-work.ensures.whole,
       λ m gap. holds_first a p.parents.now (length p.order.now) c.args.node m c.args.panels.now c.args.row_pattern.now c.args.nodes.now c.in_ok-work.work.items c.requires.panels c.requires.row_pattern c.requires.node_in start gap,
@@ -76,7 +76,7 @@ gather-requires-clause-entries_small c =
 pub gather-requires-clause-work_small : goal.gather-requires-clause-work_small
 gather-requires-clause-work_small c =
     let p = c.args.problem.now in
-    let a = matrix_of p.matrix.now p.order.now p.shift in
+    let a = shifted_matrix p.matrix.now p.order.now p.shift in
     let i = c.loop-earlier.earlier-index in
     let d = get_or c.args.row_pattern.now i 0 in
     let earlier = earlier_at c.args.panels.now c.args.node c.args.node c.args.row_pattern.now i c.requires.row_pattern c.loop-earlier-test.true in
@@ -91,7 +91,7 @@ gather-requires-clause-work_small c =
 pub loop-earlier-preserved : goal.loop-earlier-preserved
 loop-earlier-preserved c =
     let p = c.args.problem.now in
-    let a = matrix_of p.matrix.now p.order.now p.shift in
+    let a = shifted_matrix p.matrix.now p.order.now p.shift in
     let n = c.args.node in
     let nodes = c.args.nodes.now in
     let i = c.loop-earlier.earlier-index in

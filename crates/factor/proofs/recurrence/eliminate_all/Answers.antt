@@ -8,7 +8,7 @@ use Rattle.std.proofs.Math.ListN.{length-replicate}
 use Rattle.lists.specs.Rising.{IsRising}
 use Rattle.lists.specs.Lists.{contents, list_of, ListsInAll}
 use Rattle.lists.proofs.ListsLemmas.{contents-read, length-contents}
-use Rattle.factor.specs.State.{matrix_of, ArePanels, IsRowPattern}
+use Rattle.factor.specs.State.{shifted_matrix, ArePanels, IsRowPattern}
 use Rattle.factor.specs.Columns.{HasColumns}
 use Rattle.factor.specs.Scalar.{IsBreakdownAt}
 use Rattle.factor.specs.declared.panel.Panel.{Panel}
@@ -31,7 +31,7 @@ returns-in_err-panel c =
     let n = c.loop-node.node in
     let told = err_from_is_err_and c.from_residual-in_err-panel.result c.from_residual-in_err-panel.ensures.1 in
     let e : told.0 ≡ c.in_err-panel.field-0.0 = told.2 in
-    let P : ScalarFault → Type 0 = λ f. IsBreakdownAt (matrix_of p.matrix.now p.order.now p.shift) p.order.now p.parents.now n f in
+    let P : ScalarFault → Type 0 = λ f. IsBreakdownAt (shifted_matrix p.matrix.now p.order.now p.shift) p.order.now p.parents.now n f in
     rw told.1 (n, omega arith, subst P (sym e) c.in_err-panel.ensures)
 
 pub list_in_all-requires-clause-in_range : goal.list_in_all-requires-clause-in_range
@@ -49,11 +49,11 @@ list_in_all-requires-clause-rising c q =
 
 pub returns-in_err-list_in_all : goal.returns-in_err-list_in_all
 returns-in_err-list_in_all c =
-    no_memory (matrix_of c.args.problem.now.matrix.now c.args.problem.now.order.now c.args.problem.now.shift) c.args.problem.now.order.now c.args.problem.now.parents.now c.from_residual-in_err-list_in_all.result c.from_residual-in_err-list_in_all.ensures.1
+    no_memory (shifted_matrix c.args.problem.now.matrix.now c.args.problem.now.order.now c.args.problem.now.shift) c.args.problem.now.order.now c.args.problem.now.parents.now c.from_residual-in_err-list_in_all.result c.from_residual-in_err-list_in_all.ensures.1
 
 pub returns-in_err-push : goal.returns-in_err-push
 returns-in_err-push c =
-    no_memory (matrix_of c.args.problem.now.matrix.now c.args.problem.now.order.now c.args.problem.now.shift) c.args.problem.now.order.now c.args.problem.now.parents.now c.from_residual-in_err-push.result c.from_residual-in_err-push.ensures.1
+    no_memory (shifted_matrix c.args.problem.now.matrix.now c.args.problem.now.order.now c.args.problem.now.shift) c.args.problem.now.order.now c.args.problem.now.parents.now c.from_residual-in_err-push.result c.from_residual-in_err-push.ensures.1
 
 pub loop-node-preserved : goal.loop-node-preserved
 loop-node-preserved c =
@@ -61,7 +61,7 @@ loop-node-preserved c =
     let size = length c.args.problem.now.order.now in
     let panels = c.loop-node.panels.items in
     let p = c.in_ok-panel.panel in
-    let a = matrix_of c.args.problem.now.matrix.now c.args.problem.now.order.now c.args.problem.now.shift in
+    let a = shifted_matrix c.args.problem.now.matrix.now c.args.problem.now.order.now c.args.problem.now.shift in
     let row_patterns = c.loop-node.row_patterns in
     let lists = c.list_in_all.new.lists in
     let after : (with_items row_patterns lists).items ≡ lists = with_items_is row_patterns lists (omega (arith, c.list_in_all.auto.lists, c.deref_mut.ensures.len, row_patterns.ok.0)) in
@@ -77,20 +77,20 @@ loop-node-preserved c =
 pub columns-requires-clause-panels : goal.columns-requires-clause-panels
 columns-requires-clause-panels c =
     let size = length c.args.problem.now.order.now in
-    let a = matrix_of c.args.problem.now.matrix.now c.args.problem.now.order.now c.args.problem.now.shift in
+    let a = shifted_matrix c.args.problem.now.matrix.now c.args.problem.now.order.now c.args.problem.now.shift in
     let end : c.loop-node.node ≡ size = omega arith in
     let P : ℕ → Type 0 = λ n. ArePanels a c.args.problem.now.parents.now size n c.loop-node.panels.items in
     rw c.deref-2.ensures.value (panel_shapes a c.args.problem.now.parents.now size c.loop-node.panels.items (subst P end c.loop-node.invariant.0))
 
 pub returns-in_err-columns : goal.returns-in_err-columns
 returns-in_err-columns c =
-    no_memory (matrix_of c.args.problem.now.matrix.now c.args.problem.now.order.now c.args.problem.now.shift) c.args.problem.now.order.now c.args.problem.now.parents.now c.from_residual-in_err-columns.result c.from_residual-in_err-columns.ensures.1
+    no_memory (shifted_matrix c.args.problem.now.matrix.now c.args.problem.now.order.now c.args.problem.now.shift) c.args.problem.now.order.now c.args.problem.now.parents.now c.from_residual-in_err-columns.result c.from_residual-in_err-columns.ensures.1
 
 pub returns : goal.returns
 returns c =
     let p = c.args.problem.now in
     let size = length p.order.now in
-    let a = matrix_of p.matrix.now p.order.now p.shift in
+    let a = shifted_matrix p.matrix.now p.order.now p.shift in
     let end : c.loop-node.node ≡ size = omega arith in
     let P : ℕ → Type 0 = λ n. ArePanels a p.parents.now size n c.loop-node.panels.items in
     let Q : List Panel → Type 0 = λ ps. HasColumns p.order.now ps c.in_ok-columns.field-0 in
@@ -101,11 +101,11 @@ eliminate_node-requires-clause-panels c = rw c.deref.ensures.value c.loop-node.i
 
 pub returns-in_err-row_patterns : goal.returns-in_err-row_patterns
 returns-in_err-row_patterns c =
-    no_memory (matrix_of c.args.problem.now.matrix.now c.args.problem.now.order.now c.args.problem.now.shift) c.args.problem.now.order.now c.args.problem.now.parents.now c.from_residual.result c.from_residual.ensures.1
+    no_memory (shifted_matrix c.args.problem.now.matrix.now c.args.problem.now.order.now c.args.problem.now.shift) c.args.problem.now.order.now c.args.problem.now.parents.now c.from_residual.result c.from_residual.ensures.1
 
 pub returns-in_err-panels : goal.returns-in_err-panels
 returns-in_err-panels c =
-    no_memory (matrix_of c.args.problem.now.matrix.now c.args.problem.now.order.now c.args.problem.now.shift) c.args.problem.now.order.now c.args.problem.now.parents.now c.from_residual-in_err-panels.result c.from_residual-in_err-panels.ensures.1
+    no_memory (shifted_matrix c.args.problem.now.matrix.now c.args.problem.now.order.now c.args.problem.now.shift) c.args.problem.now.order.now c.args.problem.now.parents.now c.from_residual-in_err-panels.result c.from_residual-in_err-panels.ensures.1
 
 -- no panel is there yet, and no node is listed
 listed_none : (size q : ℕ) → IsRowPattern [] 0 q (list_of (replicate size []) q)

@@ -2,7 +2,7 @@ use Rattle.std.proofs.Common.{rules, arith, ◌≡◌, ◌⊎◌, inl, inr, ℕ,
 use Rattle.std.specs.Int.{w128}
 use Rattle.std.proofs.Math.Seq.{get_or-append_seam}
 use Rattle.std.proofs.lemmas.List.{get_or_append_left}
-use Rattle.factor.specs.State.{matrix_of}
+use Rattle.factor.specs.State.{shifted_matrix}
 use Rattle.factor.proofs.scatter.scatter.Goals as goal
 
 -- one number more, at the end
@@ -30,7 +30,7 @@ loop-s-preserved c =
     let p = c.args.problem.now in
     let fits : FitsSigned w128 c.scaled_entry.result = search rules in
     pushed c.loop-s.work.items c.push.new.self.items _ c.loop-s.s
-    (λ s. matrix_of p.matrix.now p.order.now p.shift (6 * get_or c.args.nodes.now (s / 36) 0 + s % 36 / 6) (6 * c.args.node + s % 6))
+    (λ s. shifted_matrix p.matrix.now p.order.now p.shift (6 * get_or c.args.nodes.now (s / 36) 0 + s % 36 / 6) (6 * c.args.node + s % 6))
     c.loop-s.invariant.0 c.in_ok-push.ensures.items (to_z-of_z fits ∙ c.scaled_entry.ensures) c.loop-s.invariant.1
 
 pub returns : goal.returns
