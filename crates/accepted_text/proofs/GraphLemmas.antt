@@ -33,7 +33,7 @@ ends_apart m e keeps same =
     let none : Node = record { name = []; x = pos 0; y = pos 0; z = pos 0 } in
     let there = slice_get-get_or m.nodes e.from.0 none keeps.known.0 in
     let a = get_or m.nodes e.from.0 none in
-    let span = keeps.own a a there (subst (λ n. slice_get m.nodes n ≡ Some a) same there) in
+    let span = keeps.own.span a a there (subst (λ n. slice_get m.nodes n ≡ Some a) same there) in
     omega (arith, span.apart, no_distance a)
 
 pub pairs_apart : (m : Lists) → IsModel m → All (λ p. p.0 ≢ p.1) (joined_nodes m)

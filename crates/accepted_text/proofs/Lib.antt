@@ -1,3 +1,4 @@
 mod AcceptLemmas
 mod FaultLemmas
 mod GraphLemmas
+pub mod ExistLemmas

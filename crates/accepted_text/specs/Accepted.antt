@@ -1,5 +1,5 @@
 -- Which texts are accepted, with a model and its assembly tree, and by which number and at which line the others are refused.
-use Rattle.std.specs.Prelude.{◌≡◌, ℕ, List, length, map, Ok, Err}
+use Rattle.std.specs.Prelude.{◌≡◌, ℕ, List, length, map, ◌⊎◌, Ok, Err}
 use Rattle.elim_order.specs.Graph.{links}
 use Rattle.elim_order.specs.Order.{IsEliminationOrder, IsFirstBroad}
 use Rattle.elim_tree.specs.Fronts.{Fronts}
@@ -7,6 +7,7 @@ use Rattle.elim_tree.specs.Tree.{placed, IsTreeOf, HasManyEntries}
 use Rattle.model_text.specs.Grammar.{parsed, IsLineOf}
 use Rattle.model_types.specs.Kinds.{node_kind}
 use Rattle.model_types.specs.Lists.{Lists}
+use Rattle.model_types.specs.Rules.{IsModel}
 
 -- the pairs of nodes that the elements of a model join
 abbrev pub joined_nodes : Lists → List (ℕ × ℕ)
@@ -36,6 +37,11 @@ pub data IsRefusedBy (text : List ℕ) : ℕ → ℕ → Type 0 where
   by_grammar : (number line : ℕ) → parsed text ≡ Err (record { number = number; line = line }) → IsRefusedBy text number line
   too_broad : (m : Lists) (node line : ℕ) → parsed text ≡ Ok m → IsFirstBroad (length m.nodes) (model_graph m) node → IsLineOf text node_kind node line → IsRefusedBy text 16 line
   too_many : (m : Lists) (order : List ℕ) → parsed text ≡ Ok m → IsModelOrder m order → HasManyEntries (placed (model_graph m) order) (length order) → IsRefusedBy text 16 1
+
+-- a model has an assembly tree; or a first node that is too broad; or an order whose tree would have too many entries
+abbrev pub TreeOrReason : Type 0
+TreeOrReason = (m : Lists) → IsModel m → ((t : Fronts) × IsModelTree m t) ⊎ (((node : ℕ) × IsFirstBroad (length m.nodes) (model_graph m) node)
+    ⊎ ((order : List ℕ) × IsModelOrder m order × HasManyEntries (placed (model_graph m) order) (length order)))
 
 -- a model has one assembly tree
 abbrev pub OneModelTree : Type 0

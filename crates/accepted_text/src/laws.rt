@@ -1,7 +1,7 @@
-ghost use Rattle.accepted_text.specs.Accepted.{OneModelTree, OneModelAndTree, OneRefusal, NeverAcceptedAndRefused};
+ghost use Rattle.accepted_text.specs.Accepted.{TreeOrReason, OneModelTree, OneModelAndTree, OneRefusal, NeverAcceptedAndRefused};
 
-use elim_order::orders_are_determined;
-use elim_tree::trees_are_determined;
+use elim_order::{orders_are_determined, orders_exist};
+use elim_tree::{trees_are_determined, trees_exist};
 use model_text::lines_are_determined;
 
 /// What shows that the definition leaves no choice: a model has one tree, and a text is accepted with one model and one tree, or
@@ -15,4 +15,13 @@ pub fn acceptance_is_determined()
     lines_are_determined();
     orders_are_determined();
     trees_are_determined();
+}
+
+/// What shows that the definition speaks of every model: it has an assembly tree, or a first node that is too broad, or too many
+/// entries for a tree.
+pub fn acceptance_exists()
+    ensures { TreeOrReason }
+{
+    orders_exist();
+    trees_exist();
 }

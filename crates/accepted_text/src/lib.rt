@@ -8,5 +8,5 @@ mod laws;
 mod reader;
 
 pub use fault::AcceptFault;
-pub use laws::acceptance_is_determined;
+pub use laws::{acceptance_exists, acceptance_is_determined};
 pub use reader::{Accepted, accept};

@@ -200,7 +200,7 @@ abbrev from_turns : Built → List Ends → ℤ → Result (List ℤ) Wide → R
 from_turns b loads lambda o = and_then (named (λ _. turns_reason) o) (λ u. named (λ _. bounds_reason) (bounds_around (system b (resting_laws b) loads) u lambda))
 
 abbrev from_factor : Plan → Built → List Ends → ℤ → Result Entries Reason → Result Enclosure Reason
-from_factor p b loads lambda o = and_then o (λ factor. from_turns b loads lambda (turns_of (problem (system b (resting_laws b) loads) p.order factor) 8))
+from_factor p b loads lambda o = and_then o (λ factor. from_turns b loads lambda (turns_of (problem (system b (resting_laws b) loads) [] p.order factor) 8))
 
 abbrev from_loads : Plan → Built → ℤ → Result (List Ends) Reason → Result Enclosure Reason
 from_loads p b lambda o = and_then o (λ loads. from_factor p b loads lambda (factor_at p (middle b) (pos 0)))
@@ -225,14 +225,14 @@ pub record HasFactor (m : Lists) (p : Plan) (case : ℕ) (b : Built) (loads : Li
 
 -- what is solved with it
 abbrev pub solved : Built → List Ends → ColumnLists → Problem
-solved b loads f = problem (system b (resting_laws b) loads) f.order (factor_entry f)
+solved b loads f = problem (system b (resting_laws b) loads) [] f.order (factor_entry f)
 
 at_turns : (m : Lists) (p : Plan) (case : ℕ) (b : Built) (lambda : ℤ) (loads : List Ends) (f : ColumnLists) → HasFactor m p case b loads f →
     enclosure_in m p case (base b lambda) ≡ from_turns b loads lambda (turns_of (solved b loads f) 8)
 at_turns m p case b lambda loads f has =
     at_factor m p case b lambda loads has.loaded
     ∙ ap (from_factor p b loads lambda) has.factor
-    ∙ ap (λ (o : List ℕ). from_turns b loads lambda (turns_of (problem (system b (resting_laws b) loads) o (factor_entry f)) 8)) (sym has.order)
+    ∙ ap (λ (o : List ℕ). from_turns b loads lambda (turns_of (problem (system b (resting_laws b) loads) [] o (factor_entry f)) 8)) (sym has.order)
 
 pub case_no_turns : (m : Lists) (p : Plan) (case : ℕ) (b : Built) (lambda : ℤ) (loads : List Ends) (f : ColumnLists) (e : Reason) → HasFactor m p case b loads f →
     named (λ _. turns_reason) (turns_of (solved b loads f) 8) ≡ Err e → enclosure_in m p case (base b lambda) ≡ Err e

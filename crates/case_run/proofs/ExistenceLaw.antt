@@ -11,7 +11,7 @@ use Rattle.member_set.specs.declared.members.Law.TheVariants.{Linear}
 use Rattle.member_set.specs.Members.{nothing, no_law, start_of, system, load_of}
 use Rattle.member_set.specs.Realisation.{LowerEndsAreRealisation}
 use Rattle.structure.specs.Numbers.{StructuresHoldNumbers}
-use Rattle.load_vectors.specs.Loads.{forces_load}
+use Rattle.load_vectors.specs.Loads.{exact_row_load}
 use Rattle.case_run.specs.Causes.{resting_laws}
 use Rattle.case_run.specs.Soundness.{RealisationsExist}
 
@@ -28,5 +28,5 @@ realisations_exist lower_ends hold_numbers m b case loads structure encloses hol
       shapes = λ k row inside. (hold k inside).shape row;
       starts = λ k inside.
           subst (λ (l : Law). (start_of l).lo ≤ℤ (start_of l).hi) (sym (get_or-replicate (length b.members) k (Linear nothing) no_law inside)) (omega (arith, ints));
-      loads_hold = λ row inside. ordered (load_of loads row) (forces_load m case row) (enclosed row (omega (arith, structure.nodes)));
+      loads_hold = λ row inside. ordered (load_of loads row) (exact_row_load m case row) (enclosed row (omega (arith, structure.nodes)));
     })

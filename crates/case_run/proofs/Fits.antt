@@ -196,8 +196,8 @@ own_fits m p case shared ordered count =
     error_before (FitsReason m) (factor_at p (middle shared.structure) (pos 0)) _ (factor_fits m p (middle shared.structure) (pos 0) ordered count)
     (λ factor reason _.
     let s = system shared.structure (resting_laws shared.structure) loads in
-    error_before (FitsReason m) (named (λ _. turns_reason) (turns_of (problem s p.order factor) 8)) _
-    (error_named (FitsReason m) (λ _. turns_reason) (turns_of (problem s p.order factor) 8) (λ wide is. (tt, refl)))
+    error_before (FitsReason m) (named (λ _. turns_reason) (turns_of (problem s [] p.order factor) 8)) _
+    (error_named (FitsReason m) (λ _. turns_reason) (turns_of (problem s [] p.order factor) 8) (λ wide is. (tt, refl)))
     (λ u reason _. error_named (FitsReason m) (λ _. bounds_reason) (bounds_around s u shared.lambda) (λ wide is. (tt, refl)) reason)
     reason)
     reason)
@@ -260,7 +260,7 @@ certified_fits passed_test limits counts m p case e some given =
     let structure = a_structure m (model_members m) b is.structure in
     let members = counts m b.members structure.0 in
     let margin = margin_definite passed_test p is.middles is.radii shared.lambda some is.margin in
-    let moved = candidate (problem s p.order around.factor) 7 around.u around.turned in
+    let moved = candidate (problem s [] p.order around.factor) 7 around.u around.turned in
     let limited = limits s around.u shared.lambda e margin.positive moved.0 moved.1 around.bounds in
     let same = (unless_value (bounds_fail s around.u shared.lambda) (enclosure_of s around.u shared.lambda) e around.bounds).1 in
     let displacements : length e.u ≡ row_count b = sym (ap (λ (x : Enclosure). length x.u) same) ∙ length-map-range_with_len _ 0 (row_count b) in

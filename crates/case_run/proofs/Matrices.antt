@@ -14,7 +14,9 @@ use Rattle.member_set.specs.Members.{nothing, no_law, law_of, IsOneway, HasState
 use Rattle.member_set.specs.Realisation.{ExactLaw, linear, oneway, Stiffness, IsLawWithin, IsStiffnessOf, is_linear}
 use Rattle.member_set.specs.Interval.{Outcome}
 use Rattle.sym_blocks.specs.Matrix.{Matrix, node_count, entry, IsSymmetricByBlocks}
-use Rattle.assembly.specs.Stiffness.{AreAssembled, limited_entry, entry_sum}
+use Rattle.member_set.specs.States.{under, NoStatesNoChange}
+use Rattle.assembly.specs.Stiffness.{AreAssembled, NamesFirstWide, limited_entry, entry_sum}
+use Rattle.assembly.specs.declared.fault.AssembleFault.{AssembleFault}
 use Rattle.case_run.specs.Causes.{resting_laws}
 
 -- a law at rest is linear in every realisation
@@ -104,3 +106,13 @@ radii_not_negative b radii kept same inside i j =
         | true ↦ λ col. inside i j (grind (arith, nat_tests)) (grind (arith, nat_tests))
       ] refl
     ] refl
+
+-- ---- where no member has a state, all take part
+
+pub same_matrices : NoStatesNoChange → (b : Built) (closed : List Bool) (middles radii : Matrix) → b.unilateral ≡ [] →
+    AreAssembled (under b closed) middles radii → AreAssembled b middles radii
+same_matrices same b closed middles radii none = subst (λ (x : Built). AreAssembled x middles radii) (same b closed none)
+
+pub same_fault_row : NoStatesNoChange → (b : Built) (closed : List Bool) (fault : AssembleFault) → b.unilateral ≡ [] →
+    NamesFirstWide (under b closed) fault → NamesFirstWide b fault
+same_fault_row same b closed fault none = subst (λ (x : Built). NamesFirstWide x fault) (same b closed none)

@@ -1,6 +1,6 @@
 -- Why the answers hold: by the laws of the definitions that a certified answer is composed of.
 use Rattle.std.specs.Int.{int_div_euclid}
-use Rattle.std.proofs.Common.{◌≡◌, ◌⊎◌, ℕ, zero, suc, ◌*◌, ◌<◌, refl, sym, ◌∙◌, ap, subst, arith, inl, inr, Option, Some, None, Result, Ok, Err, List, length, ℤ, pos, ◌≤ℤ◌, ◌<ℤ◌}
+use Rattle.std.proofs.Common.{◌≡◌, ◌⊎◌, ℕ, zero, suc, ◌*◌, ◌<◌, refl, sym, ◌∙◌, ap, subst, arith, inl, inr, Option, Some, None, Result, Ok, Err, List, [], length, ℤ, pos, ◌≤ℤ◌, ◌<ℤ◌}
 use Rattle.std.specs.List.{slice_get}
 use Rattle.std.proofs.lemmas.Bool.{or_right}
 use Rattle.std.proofs.lemmas.Int.{ints}
@@ -150,7 +150,7 @@ pub record AreAround (m : Lists) (p : Plan) (case : ℕ) (shared : Base) (e : En
   pub loads : List Ends
   pub factor : Entries
   pub u : List ℤ
-  pub turned : turns_of (problem (system shared.structure (resting_laws shared.structure) loads) p.order factor) 8 ≡ Ok u
+  pub turned : turns_of (problem (system shared.structure (resting_laws shared.structure) loads) [] p.order factor) 8 ≡ Ok u
   pub loaded : loads_of m case ≡ Ok loads
   pub bounds : bounds_around (system shared.structure (resting_laws shared.structure) loads) u shared.lambda ≡ Ok e
 
@@ -159,7 +159,7 @@ from_turns shared loads u = named (λ _. bounds_reason) (bounds_around (system s
 
 abbrev from_factor : Plan → Base → List Ends → Entries → Result Enclosure Reason
 from_factor p shared loads factor =
-    and_then (named (λ _. turns_reason) (turns_of (problem (system shared.structure (resting_laws shared.structure) loads) p.order factor) 8)) (from_turns shared loads)
+    and_then (named (λ _. turns_reason) (turns_of (problem (system shared.structure (resting_laws shared.structure) loads) [] p.order factor) 8)) (from_turns shared loads)
 
 abbrev from_loads : Plan → Base → List Ends → Result Enclosure Reason
 from_loads p shared loads = and_then (factor_at p (middle shared.structure) (pos 0)) (from_factor p shared loads)
@@ -169,12 +169,12 @@ are_around m p case shared e is =
     let loads = value_before (named load_reason (loads_of m case)) (from_loads p shared) e is in
     let factor = value_before (factor_at p (middle shared.structure) (pos 0)) (from_factor p shared loads.0) e loads.2 in
     let s = system shared.structure (resting_laws shared.structure) loads.0 in
-    let u = value_before (named (λ _. turns_reason) (turns_of (problem s p.order factor.0) 8)) (from_turns shared loads.0) e factor.2 in
+    let u = value_before (named (λ _. turns_reason) (turns_of (problem s [] p.order factor.0) 8)) (from_turns shared loads.0) e factor.2 in
     record {
       loads = loads.0;
       factor = factor.0;
       u = u.0;
-      turned = value_named (λ _. turns_reason) (turns_of (problem s p.order factor.0) 8) u.0 u.1;
+      turned = value_named (λ _. turns_reason) (turns_of (problem s [] p.order factor.0) 8) u.0 u.1;
       loaded = value_named load_reason (loads_of m case) loads.0 loads.1;
       bounds = value_named (λ _. bounds_reason) (bounds_around s u.0 shared.lambda) e u.2;
     }

@@ -95,7 +95,7 @@ enclosure_in m p case shared =
     and_then (named load_reason (loads_of m case)) (λ loads.
     and_then (factor_at p (middle b) (pos 0)) (λ factor.
     let s = system b (resting_laws b) loads in
-    and_then (named (λ _. turns_reason) (turns_of (problem s p.order factor) 8)) (λ u.
+    and_then (named (λ _. turns_reason) (turns_of (problem s [] p.order factor) 8)) (λ u.
     named (λ _. bounds_reason) (bounds_around s u shared.lambda))))
 
 -- bounds of each displacement, and of the force of each member from `first` on; or the reason why there are none

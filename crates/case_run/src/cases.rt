@@ -11,6 +11,7 @@ ghost use Rattle.lists.specs.Order.{IsOrder};
 ghost use Rattle.load_vectors.specs.Loads.{HasForcesAlone, case_at};
 ghost use Rattle.model_types.specs.Fits.{AreAnswersOf};
 ghost use Rattle.structure.specs.Elements.{element_member_count};
+ghost use Rattle.structure.specs.Restraints.{HasNoContacts};
 
 use crate::fault::CaseFault;
 use crate::shared::{Shared, share};
@@ -22,14 +23,15 @@ use solve::candidate;
 use std::alloc::{AllocError, Global};
 use structure::element_member_count;
 
-/// The answer of each case of a model in whose cases nothing but forces acts: certified bounds, or the first cause why there
-/// are none. The nodes are eliminated in `order`, and `parents` has the parent of each of its places.
+/// The answer of each case of a model without contacts in whose cases nothing but forces acts: certified bounds, or the first
+/// cause why there are none. The nodes are eliminated in `order`, and `parents` has the parent of each of its places.
 pub fn answers(
     alloc: Global,
     m: &Model,
     order: &[u32],
     parents: &[Option<u32>],
 ) -> Result<Vec<CaseAnswer>, NoMemory>
+    requires no_contacts { HasNoContacts m.now }
     requires forces_alone { (case : ℕ) → case < length m.now.cases → HasForcesAlone (case_at m.now case) }
     requires order { IsOrder order.now }
     requires nodes { length order.now ≡ length m.now.nodes }

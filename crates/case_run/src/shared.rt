@@ -7,6 +7,7 @@ ghost use Rattle.case_run.specs.Faults.{reason_told};
 ghost use Rattle.case_run.specs.Causes.{plan};
 ghost use Rattle.case_run.specs.Shared.{IsReady, HasUnshifted};
 ghost use Rattle.case_run.specs.Steps.{IsFactorable, IsPlan};
+ghost use Rattle.structure.specs.Restraints.{HasNoContacts};
 
 use crate::fault::CaseFault;
 use crate::margin::margin_of;
@@ -37,6 +38,7 @@ pub(crate) fn share(
     order: &[u32],
     parents: &[Option<u32>],
 ) -> Result<Shared, CaseFault>
+    requires no_contacts { HasNoContacts m.now }
     requires nodes { length order.now ≡ length m.now.nodes }
     requires plan { IsPlan order.now parents.now }
     ensures ready { IfOk result (IsReady m.now) }

@@ -8,6 +8,7 @@ ghost use Rattle.case_run.specs.Causes.{plan, resting_laws};
 ghost use Rattle.factor_data.specs.Columns.{HasDiagonal, factor_entry};
 ghost use Rattle.case_run.specs.Steps.{IsFactorable, IsRadiusMatrix};
 ghost use Rattle.lists.specs.Results.{named, Gives};
+ghost use Rattle.structure.specs.Restraints.{HasNoContacts};
 ghost use Rattle.structure.specs.Structure.{IsStructureOf, structure_of};
 ghost use Rattle.case_run.specs.Answers.{element_reason, matrix_reason, factor_at};
 ghost use Rattle.case_run.specs.Faults.{reason_told};
@@ -17,7 +18,7 @@ use assembly::assemble;
 use factor::scalar;
 use factor_data::Factor;
 use flex_interval::point;
-use member_set::{Built, Law};
+use member_set::{Built, Law, states_select_members};
 use model_types::Model;
 use std::alloc::{AllocError, Global};
 use structure::build;
@@ -25,6 +26,7 @@ use sym_blocks::SymBlocks;
 
 /// The structure of a model.
 pub(crate) fn structure_of(alloc: Global, m: &Model) -> Result<Built, CaseFault>
+    requires { HasNoContacts m.now }
     ensures given { Gives (λ b. b) reason_told (named element_reason (structure_of m.now)) result }
     ensures structure { IfOk result (IsStructureOf m.now) }
     ensures stiff { IfOk result AreStiff }
@@ -41,6 +43,8 @@ pub(crate) fn matrices_of(alloc: Global, b: &Built) -> Result<(SymBlocks, SymBlo
     ensures factorable { IfOk result (λ m. IsFactorable (built_nodes b.now) m.0) }
     ensures radii { IfOk result (λ m. IsRadiusMatrix (built_nodes b.now) m.1) }
 {
+    // No member has a state, so that the members that take part are all.
+    states_select_members();
     let (middles, radii) = assemble(alloc, b, &[])?;
     Ok((middles, radii))
 }

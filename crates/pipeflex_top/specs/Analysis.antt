@@ -1,6 +1,6 @@
 -- The report of an analysis.
 use Rattle.std.specs.Prelude.{◌≡◌, ℕ, ⊤, List, length, true, All}
-use Rattle.accepted_text.specs.Accepted.{IsModelTree}
+use Rattle.accepted_text.specs.Accepted.{IsModelTree, IsAcceptedAs}
 use Rattle.case_run.specs.Causes.{plan}
 use Rattle.case_run.specs.Answers.{answers_of}
 use Rattle.elim_tree.specs.Fronts.{Fronts, parents_in}
@@ -47,3 +47,7 @@ pub record IsReport (m : Lists) (output : List ℕ) (status : Status) : Type 0 w
 abbrev pub ReportIsDetermined : Type 0
 ReportIsDetermined = (m : Lists) (first second : List ℕ) (status other : Status) →
     IsReport m first status → IsReport m second other → (first ≡ second) × (status ≡ other)
+
+-- an accepted text has a report, whose run ends as its answers say
+abbrev pub ReportExists : Type 0
+ReportExists = (text : List ℕ) (m : Lists) (t : Fronts) → IsAcceptedAs text m t → (output : List ℕ) × (status : Status) × IsReport m output status

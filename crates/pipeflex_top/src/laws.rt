@@ -1,4 +1,4 @@
-ghost use Rattle.pipeflex_top.specs.Analysis.{ReportIsDetermined};
+ghost use Rattle.pipeflex_top.specs.Analysis.{ReportExists, ReportIsDetermined};
 
 use accepted_text::acceptance_is_determined;
 
@@ -8,3 +8,8 @@ pub fn report_is_determined()
 {
     acceptance_is_determined();
 }
+
+/// What shows that the definition of a report speaks of every accepted text: each has one, with a run's ending.
+pub fn report_exists()
+    ensures { ReportExists }
+{}

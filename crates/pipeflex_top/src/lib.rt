@@ -11,6 +11,6 @@ mod refusal;
 mod reply;
 mod written;
 
-pub use laws::report_is_determined;
+pub use laws::{report_exists, report_is_determined};
 pub use process::run_process;
 pub use program::run;

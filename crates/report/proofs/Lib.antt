@@ -1,3 +1,4 @@
 pub mod LineLemmas
 pub mod RoundingLaw
 pub mod RowLemmas
+pub mod FactorLemmas

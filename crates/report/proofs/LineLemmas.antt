@@ -25,7 +25,7 @@ joined_is first [] = sym (append-nil first)
 joined_is first (next ∷ words) = ap (λ rest. first ++ 32 ∷ rest) (joined_is next words)
 
 -- a line is its first word, and the others each behind a space
-line_is : (first : List ℕ) (words : List (List ℕ)) → line (first ∷ words) ≡ (first ++ spaced words) ++ 10 ∷ []
+pub line_is : (first : List ℕ) (words : List (List ℕ)) → line (first ∷ words) ≡ (first ++ spaced words) ++ 10 ∷ []
 unfolding line
 line_is first words = ap (λ text. text ++ 10 ∷ []) (joined_is first words)
 

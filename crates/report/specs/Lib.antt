@@ -1,3 +1,4 @@
 pub mod Report
 pub mod Rounding
 pub mod Words
+pub mod Factors

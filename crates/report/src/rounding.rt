@@ -17,6 +17,15 @@ pub(crate) const DISPLACEMENT_UNITS: i128 = 1 << 56;
 /// Units of load, 2^-40 N and N m, in a newton and a newton metre.
 pub(crate) const LOAD_UNITS: i128 = 1 << 40;
 
+/// Millionths in one.
+pub(crate) const MILLION: i128 = 1_000_000;
+
+/// Units of a flexibility factor, 2^-56, in one.
+pub(crate) const FLEXIBILITY_UNITS: i128 = 1 << 56;
+
+/// Units of a stress intensification factor, 2^-30, in one.
+pub(crate) const INDEX_UNITS: i128 = 1 << 30;
+
 /// `z * n / m` rounded down.
 pub(crate) fn rounded_down(z: i128, n: i128, m: i128) -> i128
     requires modest { IsModest z }

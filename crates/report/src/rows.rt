@@ -142,7 +142,12 @@ fn push_pairs(out: &mut Vec<u8>, bounds: &[Bounds], n: i128, m: i128) -> Result<
 }
 
 /// Writes bounds in a unit that is `m / n` of theirs, rounded outwards.
-fn push_pair(out: &mut Vec<u8>, bounds: &Bounds, n: i128, m: i128) -> Result<(), NoMemory>
+pub(crate) fn push_pair(
+    out: &mut Vec<u8>,
+    bounds: &Bounds,
+    n: i128,
+    m: i128,
+) -> Result<(), NoMemory>
     requires lo { IsModest bounds.now.lo }
     requires hi { IsModest bounds.now.hi }
     requires scale { IsScale n m }

@@ -10,7 +10,7 @@ returns-clause-one_model c = one_model_and_tree c.orders_are_determined.ensures.
 pub returns-clause-one_refusal : goal.returns-clause-one_refusal
 returns-clause-one_refusal c =
     let orders = c.orders_are_determined.ensures in
-    one_refusal orders.one_order orders.one_broad orders.never_both c.lines_are_determined.ensures
+    one_refusal orders.one_order orders.one_broad orders.never_both c.lines_are_determined.ensures.one
 
 pub returns-clause-never_both : goal.returns-clause-never_both
 returns-clause-never_both c =

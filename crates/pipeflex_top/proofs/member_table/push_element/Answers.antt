@@ -1,8 +1,5 @@
-use Rattle.std.proofs.Common.{◌≡◌, ◌++◌, Ok, subst, sym, ◌∙◌}
-use Rattle.std.specs.List.{flat_map}
-use Rattle.text_words.specs.Fields.{line}
-use Rattle.structure.specs.Elements.{members_of_element}
-use Rattle.pipeflex_top.specs.MemberTable.{element_lines}
+use Rattle.std.proofs.Common.{◌≡◌, Ok, sym, ◌∙◌}
+use Rattle.structure.specs.Elements.{members_of_element, section_of}
 use Rattle.pipeflex_top.proofs.TableLemmas.{element_written}
 use Rattle.pipeflex_top.proofs.member_table.push_element.Goals as goal
 
@@ -11,10 +8,15 @@ push_kappas-requires c = rw (c.as_slice.ensures) c.in-Ok.ensures.few
 
 pub returns-in_ok-push_kappas-in-Ok-clause-bytes : goal.returns-in_ok-push_kappas-in-Ok-clause-bytes
 returns-in_ok-push_kappas-in-Ok-clause-bytes c =
-    let old = c.args.out.now.items in
-    let new = c.push_kappas.new.out.items in
-    let made = members_of_element c.args.model.now c.args.element.now in
+    let model = c.args.model.now in
+    let element = c.args.element.now in
+    let made = members_of_element model element in
     let is : made ≡ Ok c.in-Ok.members = sym c.element_members.ensures.value ∙ c.in-Ok.is in
     let kappas = rw c.as_slice.ensures at c.in_ok-push_kappas-in-Ok.ensures.bytes in
-    subst (λ name. new ≡ old ++ flat_map line (element_lines name made)) c.bytes-name.ensures.bytes
-    (element_written old c.push_line.new.out.items new c.bytes-name.result.now made c.in-Ok.members is c.in_ok-push_line-in-Ok.ensures.written kappas)
+    element_written c.args.out.now.items c.push_shape.new.out.items c.push_kappas.new.out.items element.name (section_of model element) element.shape made c.in-Ok.members is c.in_ok-push_shape-in-Ok.ensures.bytes kappas
+
+pub returns-in_ok-push_kappas-in-Ok-clause-told : goal.returns-in_ok-push_kappas-in-Ok-clause-told
+returns-in_ok-push_kappas-in-Ok-clause-told c = record {
+  stiffnesses = c.element_members.ensures.encloses;
+  factors = rw (sym c.element_members.ensures.value ∙ c.in-Ok.is) c.in_ok-push_shape-in-Ok.ensures.told;
+}

@@ -1,7 +1,7 @@
 use Rattle.std.proofs.Common.{◌++◌, ap, subst, ◌∙◌, take_all}
 use Rattle.std.proofs.lemmas.List.Elements.{All-more}
 use Rattle.std.specs.List.{All, flat_map}
-use Rattle.structure.specs.Enclosure.{EnclosesElement}
+use Rattle.pipeflex_top.specs.Enclosure.{PrintsElement}
 use Rattle.pipeflex_top.specs.MemberTable.{element_text}
 use Rattle.pipeflex_top.proofs.TableLemmas.{flat_map-taken}
 use Rattle.pipeflex_top.proofs.member_table.push_elements.Goals as goal
@@ -17,7 +17,7 @@ loop-element-preserved c =
     let here = c.in_ok-push_element.ensures in
     record {
       written = here.bytes ∙ ap (λ bytes. bytes ++ element_text model element) so_far.written ∙ flat_map-taken (element_text model) c.args.out.now.items elements i element inside c.element-item.is;
-      enclosed = All-more (EnclosesElement model) elements i element inside so_far.enclosed (subst (EnclosesElement model) c.element-item.is here.encloses);
+      enclosed = All-more (PrintsElement model) elements i element inside so_far.enclosed (subst (PrintsElement model) c.element-item.is here.told);
     }
 
 pub returns-clause-bytes : goal.returns-clause-bytes
@@ -28,4 +28,4 @@ returns-clause-bytes c =
 pub returns-clause-encloses : goal.returns-clause-encloses
 returns-clause-encloses c =
     let whole = take_all c.loop-element.element-index c.elements-elements.result.now c.loop-element-test.false ∙ c.elements-elements.ensures.records in
-    subst (All (EnclosesElement c.args.model.now)) whole c.loop-element.invariant.enclosed
+    subst (All (PrintsElement c.args.model.now)) whole c.loop-element.invariant.enclosed
