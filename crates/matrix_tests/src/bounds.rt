@@ -1,6 +1,7 @@
 //! One node that six members of one stiffness hold, each in one freedom; the first can be one-way.
-ghost use Rattle.std.specs.Prelude.{◌≡◌, ℕ, ◌^◌, ◌<◌, ◌≤◌, ◌↔◌, Contains, All, length, unsigned_abs, IfOk, IsTrue};
+ghost use Rattle.std.specs.Prelude.{◌≡◌, ℕ, ◌+◌, ◌^◌, ◌<◌, ◌≤◌, ◌↔◌, Contains, All, length, unsigned_abs, IfOk, OnOk, IsTrue};
 ghost use Rattle.member_set.specs.Members.{IsBuilt, IsModerate, IsOneway, row_count, IsStiff, AreStiff};
+ghost use Rattle.matrix_tests.specs.Anchors.{IsAnchor};
 
 use crate::makers::{counted, one_node};
 use certificate::{EncloseFault, Enclosure, enclose};
@@ -10,7 +11,7 @@ use std::alloc::{AllocError, Global};
 use std::process::Abort;
 use std::test::Fail;
 
-const LINEAR: Law = Law::Linear {
+pub(crate) const LINEAR: Law = Law::Linear {
     offset: Iv { lo: 0, hi: 0 },
 };
 
@@ -18,7 +19,8 @@ const TOUCHING: Law = Law::Oneway {
     gap: Iv { lo: 0, hi: 0 },
 };
 
-fn anchor(freedom: usize, kappa: Iv) -> Member
+// A member that holds the node in one freedom.
+pub(crate) fn anchor(freedom: usize, kappa: Iv) -> Member
     requires { freedom < 6 }
     ensures first { result.n1 ≡ 0 }
     ensures second { result.n2 ≡ 0 }
@@ -34,29 +36,45 @@ fn anchor(freedom: usize, kappa: Iv) -> Member
     }
 }
 
-fn anchors(alloc: Global, kappa: Iv) -> Result<Vec<Member>, AllocError>
-    ensures six { IfOk result (λ v. length v.items ≡ 6) }
-    ensures anchors { IfOk result (λ v. All (λ m. (m.n1 ≡ 0) × (m.n2 ≡ 0) × (m.kappa ≡ kappa)) v.items) }
+// Adds a member of one stiffness in each freedom.
+pub(crate) fn push_anchors(members: &mut Vec<Member>, kappa: Iv) -> Result<(), AllocError>
+    requires stiff { IsStiff kappa }
+    requires anchors { All IsAnchor members.old.items }
+    ensures six { OnOk result (length members.new.items ≡ length members.old.items + 6) }
+    ensures anchors { OnOk result (All IsAnchor members.new.items) }
 {
-    let mut members = Vec::new(alloc);
     for freedom in 0..6usize {
         members.push(anchor(freedom, kappa))?;
     }
+    Ok(())
+}
+
+pub(crate) fn anchors(alloc: Global, kappa: Iv) -> Result<Vec<Member>, AllocError>
+    requires stiff { IsStiff kappa }
+    ensures six { IfOk result (λ v. length v.items ≡ 6) }
+    ensures anchors { IfOk result (λ v. All IsAnchor v.items) }
+{
+    let mut members = Vec::new(alloc);
+    push_anchors(&mut members, kappa)?;
     Ok(members)
 }
 
-// The first members, so many, have a state.
-fn held_node(alloc: Global, kappa: Iv, states: u32) -> Result<Built, AllocError>
-    requires stiff { IsStiff kappa }
-    requires few { states ≤ 6 }
+// The node that these members hold; the first of them, so many, have a state.
+pub(crate) fn held_node(
+    alloc: Global,
+    members: Vec<Member>,
+    states: u32,
+) -> Result<Built, AllocError>
+    requires anchors { All IsAnchor members.items }
+    requires some_members { length members.items ≤ 7 }
+    requires few { states ≤ length members.items }
     ensures built { IfOk result (λ b. IsBuilt b) }
     ensures stiff { IfOk result (λ b. AreStiff b) }
     ensures states { IfOk result (λ b. (k : ℕ) → Contains b.unilateral k ↔ (k < states)) }
-    ensures members { IfOk result (λ b. length b.members ≡ 6) }
+    ensures members { IfOk result (λ b. length b.members ≡ length members.items) }
     ensures rows { IfOk result (λ b. row_count b ≡ 6) }
 {
-    let members = anchors(alloc, kappa)?;
-    let numbers = counted(alloc, 0, 6)?;
+    let numbers = counted(alloc, 0, members.len() as u32)?;
     one_node(alloc, members, numbers, counted(alloc, 0, states)?)
 }
 
@@ -72,7 +90,7 @@ fn states_of(law: &Law) -> u32
 }
 
 // Displacements are at most 2^60 in size.
-fn check_moderate(rt: &impl Abort, u: &[i128])
+pub(crate) fn check_moderate(rt: &impl Abort, u: &[i128])
     ensures { IsModerate u.now }
 {
     for z in u {
@@ -99,13 +117,13 @@ fn enclosed(
     assert!(rt; kappa.lo >= 1 && kappa.hi < 1 << 61 && lambda >= 1);
     assert!(rt; loads.len() == 6 && u.len() == 6);
     check_moderate(rt, u);
-    let structure = held_node(alloc, kappa, states_of(&first))?;
+    let structure = held_node(alloc, anchors(alloc, kappa)?, states_of(&first))?;
     let laws = [first, LINEAR, LINEAR, LINEAR, LINEAR, LINEAR];
     enclose(alloc, &structure, &laws, loads, u, lambda)
 }
 
 // The intervals have these ends.
-fn check_ends(rt: &impl Abort, intervals: &[Iv], ends: &[(i128, i128)]) {
+pub(crate) fn check_ends(rt: &impl Abort, intervals: &[Iv], ends: &[(i128, i128)]) {
     assert!(rt; intervals.len() == ends.len());
     for k in 0..ends.len() {
         assert!(rt; has_ends(intervals[k], ends[k]), "at {k}");

@@ -2,6 +2,8 @@
 #![tactic(auto)]
 
 #[cfg(test)]
+mod assembled;
+#[cfg(test)]
 mod bounds;
 #[cfg(test)]
 mod definiteness;
@@ -15,3 +17,5 @@ mod orders;
 mod refinement;
 #[cfg(test)]
 mod search;
+#[cfg(test)]
+mod states;

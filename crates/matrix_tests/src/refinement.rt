@@ -22,7 +22,7 @@ const LOADS: [Iv; 6] = [
 ];
 
 // The diagonal of a node's factor is above 0.
-fn check_diagonal(rt: &impl Abort, factor: &Factor)
+pub(crate) fn check_diagonal(rt: &impl Abort, factor: &Factor)
     ensures { (j : ℕ) → j < 6 → pos 0 <ℤ factor_entry factor.now j j }
 {
     for j in 0..6 {

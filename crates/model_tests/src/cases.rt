@@ -3,7 +3,7 @@ ghost use Rattle.std.specs.Prelude.{◌≡◌, ◌<◌, length};
 ghost use Rattle.elimination.specs.Elimination.{AreParents};
 ghost use Rattle.lists.specs.Order.{IsOrder};
 
-use crate::makers::{check_all_forces, model};
+use crate::makers::{check_all_forces, check_no_contacts, model};
 use case_run::answers;
 use model_types::{Bounds, CaseAnswer, Cause, Model, NodeId};
 use std::alloc::Global;
@@ -39,6 +39,7 @@ force great b 0 0 1000000000000 0 0 0
 fn answers_of(rt: &impl Abort, alloc: Global, m: &Model) -> Vec<CaseAnswer> {
     assert!(rt; m.nodes().len() == 2);
     check_all_forces(rt, m);
+    check_no_contacts(rt, alloc, m);
     answers(alloc, m, &order(), &parents()).expect(rt, "memory")
 }
 

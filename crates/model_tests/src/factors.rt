@@ -1,6 +1,7 @@
 //! Factors of bends and tees. The ends were computed outside this program, by the formulas over whole numbers.
 ghost use Rattle.std.specs.Prelude.{◌≡◌};
-ghost use Rattle.sif_factors.specs.Characteristic.{HasBore, TeeKindInForm};
+ghost use Rattle.model_types.specs.Ranges.{TeeInForm};
+ghost use Rattle.sif_factors.specs.Characteristic.{HasBore};
 
 use flex_interval::Iv;
 use model_types::{MaterialId, Name, Section, TeeKind};
@@ -24,7 +25,7 @@ fn pipe(rt: &impl Abort, d: i64, t: i64) -> Section
 }
 
 fn in_form(rt: &impl Abort, kind: TeeKind) -> TeeKind
-    ensures { TeeKindInForm result }
+    ensures { TeeInForm result }
 {
     match kind {
         TeeKind::Unreinforced => (),

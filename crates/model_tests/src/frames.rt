@@ -1,7 +1,7 @@
 //! Frames whose displacements and loads are known in closed form. The values were worked out outside the program, to 60 digits, by
 //! the formulas that stand beside each frame: E = 200,000 MPa, the tube of 100 mm by 10 mm has I = pi (0.1^4 - 0.08^4) / 64 m^4
 //! and A = pi (0.1^2 - 0.08^2) / 4 m^2, G J = E I / 1.3, and each anchor of 10^10 N/m and N m/rad gives way too.
-use crate::makers::{TUBE, check_all_forces};
+use crate::makers::{TUBE, check_all_forces, check_no_contacts};
 use accepted_text::accept;
 use case_run::answers;
 use model_types::{Bounds, CaseAnswer};
@@ -21,6 +21,7 @@ fn answers_of(rt: &impl Abort, alloc: Global, frame: &str) -> Vec<CaseAnswer> {
     text.push_str(frame).expect(rt, "memory");
     let accepted = accept(alloc, text.as_bytes()).expect(rt, "a model and its tree");
     check_all_forces(rt, &accepted.model);
+    check_no_contacts(rt, alloc, &accepted.model);
     let order = accepted.tree.order();
     let parents = accepted.tree.node_parents();
     assert!(rt; parents.len() == order.len(), "a parent each");
@@ -186,5 +187,39 @@ force pull b 0 3000000 0 0 0 0
             (20, -1_874_124_115_321_796),
         ],
         &[],
+    );
+}
+
+// Two runs of l = 2 m at a right angle, joined by a bend of R = 150 mm and built in at both ends, with F = 10,000 N across each run at its end at
+// the bend. The bend is k = 1.65 * 0.045^2 / 0.01 R = 2.2275 times as flexible as a straight. The line through its middle and its centre is one
+// of symmetry, and the loads are mirrored with the other sign: the middle bears a shear alone, 2^(1/2) H along that line, and doesn't move along it. So
+// H = F (R l^2 / 2 E I + l^3 / 3 E I + 1 / K + l (R + l) / K) / 2 f = 8,946.667 N, where
+// f = (k R^3 / E I + R / E A) (pi / 8 - 1 / 4) + ((R + l)^3 - R^3) / 6 E I + l / 2 E A + 1 / K + (R + l)^2 / 2 K and K is the anchor's. The first run's end
+// moves by H (l / E A + 1 / K) along it and by F (l^3 / 3 E I + 1 / K + l^2 / K) - H (R l^2 / 2 E I + l^3 / 3 E I + 1 / K + l (R + l) / K) across
+// it: 32.537 and 215.727 micrometres. The anchor bears H, F - H and F l - H (R + l) = 764.668 N m.
+#[test]
+fn elbow(rt: HostRuntime) {
+    check(
+        &rt,
+        rt.alloc(),
+        "node a 0 0 0
+node b 2000000 0 0
+node c 2150000 150000 0
+node d 2150000 2150000 0
+straight p a b s
+bend q b c s 150000 90000 2150000 0 0
+straight r c d s
+anchor A a - -
+anchor B d - -
+case across 0 0 0 0 0 0
+force across b 0 10000000 0 0 0 0
+force across c 10000000 0 0 0 0 0
+",
+        &[(6, 2_344_539_717_316), (7, 15_544_782_661_398)],
+        &[
+            (0, 9_836_963_273_878_579),
+            (1, 1_158_153_003_881_420),
+            (5, 840_761_516_681_053),
+        ],
     );
 }

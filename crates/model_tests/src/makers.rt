@@ -1,11 +1,13 @@
 //! Models of text, and what the calls under test require of them.
 ghost use Rattle.std.specs.Prelude.{ℕ, ◌<◌, length};
 ghost use Rattle.load_vectors.specs.Loads.{HasForcesAlone, case_at};
+ghost use Rattle.structure.specs.Restraints.{HasNoContacts};
 
 use model_text::read;
 use model_types::Model;
 use std::alloc::Global;
 use std::process::Abort;
+use structure::has_no_contacts;
 
 // A tube of steel.
 pub(crate) const TUBE: &str = "pipeflex 1
@@ -41,4 +43,14 @@ pub(crate) fn check_all_forces(rt: &impl Abort, m: &Model)
     for case in 0..m.cases().len() {
         check_forces(rt, m, case);
     }
+}
+
+// No restraint has a member that is open or closed.
+pub(crate) fn check_no_contacts(rt: &impl Abort, alloc: Global, m: &Model)
+    ensures { HasNoContacts m.now }
+{
+    assert!(rt;
+        has_no_contacts(alloc, m).expect(rt, "memory"),
+        "no contacts"
+    );
 }

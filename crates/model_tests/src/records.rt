@@ -1,6 +1,9 @@
 //! The base model, each refusal once, and a draft that is full.
+ghost use Rattle.std.specs.Prelude.{IsTrue};
 ghost use Rattle.text_words.specs.Names.{IsName};
 ghost use Rattle.model_types.specs.Ranges.{InForm, IsIn};
+ghost use Rattle.model_types.specs.Refusals.{IsSineFor, IsSineOf};
+ghost use Rattle.model_types.specs.declared.answers.Bounds.{Bounds};
 
 use model_types::ranges::{COORDINATE, WALL};
 use model_types::{
@@ -107,10 +110,36 @@ fn force(case: u32, node: u32) -> Record
     })
 }
 
+// A record that isn't a bend is added without a sine.
+fn needs_no_sine(candidate: &Record) -> bool
+    ensures { IsTrue result → (sine : Bounds) → IsSineFor candidate.now sine }
+{
+    match candidate {
+        Record::Material(_)
+        | Record::Section(_)
+        | Record::Node(_)
+        | Record::Tee(_)
+        | Record::Restraint(_)
+        | Record::Case(_)
+        | Record::Force(_) => true,
+        Record::Element(element) => is_straight(element.shape),
+    }
+}
+
+fn is_straight(shape: Shape) -> bool
+    ensures { IsTrue result → (sine : Bounds) → IsSineOf shape sine }
+{
+    match shape {
+        Shape::Straight => true,
+        Shape::Bend { .. } => false,
+    }
+}
+
 // The draft takes the record.
 fn accept(rt: &impl Abort, draft: &mut Draft, candidate: Record)
     requires { InForm candidate }
 {
+    assert!(rt; needs_no_sine(&candidate));
     assert!(rt; draft.add(candidate, NO_SINE) == Ok(()));
 }
 
@@ -180,6 +209,7 @@ fn counts(rt: &impl Abort, model: &Model) {
 fn refusal_of(rt: &impl Abort, draft: &mut Draft, candidate: Record) -> Option<u8>
     requires { InForm candidate }
 {
+    assert!(rt; needs_no_sine(&candidate));
     match draft.add(candidate, NO_SINE) {
         Ok(()) => None,
         Err(AddFault::Refused(number)) => Some(number),
@@ -259,6 +289,42 @@ fn refuse_more(rt: &impl Abort, draft: &mut Draft) {
     for (text, number) in [("one-more", 14), ("n7", 8)] {
         judge(rt, draft, node(rt, text, 0), Some(number));
     }
+}
+
+#[test]
+fn fills_up_with_stops(rt: HostRuntime) {
+    let mut draft = Draft::new(rt.alloc()).expect(&rt, "memory");
+    accept(&rt, &mut draft, node(&rt, "a", 0));
+    for i in 0..1000 {
+        accept_stop(&rt, rt.alloc(), &mut draft, i);
+    }
+    judge(&rt, &mut draft, stop(&rt, "one-more", 0), Some(14));
+    judge(&rt, &mut draft, stop(&rt, "one-more", 1), Some(14));
+    judge(&rt, &mut draft, stop(&rt, "r7", 0), Some(8));
+    judge(&rt, &mut draft, anchor(&rt, 0), None);
+}
+
+// A gap of 0, or a one-way support where the number is odd.
+fn stop(rt: &impl Abort, text: &str, number: u32) -> Record
+    ensures { InForm result }
+{
+    let (dx, dy, dz, gap) = (0, 0, -1, 0);
+    let k = None;
+    let kind = match number % 2 {
+        0 => RestraintKind::Gap { dx, dy, dz, gap, k },
+        _ => RestraintKind::Oneway { dx, dy, dz, gap, k },
+    };
+    Record::Restraint(Restraint {
+        name: name(rt, text),
+        node: NodeId(0),
+        kind,
+    })
+}
+
+// The draft takes a stop whose name is made of its number.
+fn accept_stop(rt: &impl Abort, alloc: Global, draft: &mut Draft, number: u32) {
+    let text = format!(in alloc; "r{number}").expect(rt, "memory");
+    accept(rt, draft, stop(rt, &text, number));
 }
 
 // The draft takes a node whose name is made of its number.

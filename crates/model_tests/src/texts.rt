@@ -60,7 +60,8 @@ fn refuses_one_more_line(rt: HostRuntime) {
         ("node c 0 0", 5),
         ("node - 0 0 0", 7),
         ("nodes c 0 0 0", 4),
-        ("bend c", 17),
+        ("bend c", 5),
+        ("temp c", 17),
         ("section w st 100000 50000 0 0", 13),
         ("section w sx 100000 50000 0 0", 9),
         ("straight q a a s", 10),
@@ -69,6 +70,20 @@ fn refuses_one_more_line(rt: HostRuntime) {
         ("linear B a 0 0 0 x", 7),
         ("linear B a 0 0 x -", 6),
         ("twist B a 0 0 1 0", 7),
+        ("oneway R b 0 0 0 x -", 7),
+        ("oneway R b 0 0 x 0 -", 6),
+        ("oneway R b 0 0 -1 -1 -", 7),
+        ("oneway R b 0 0 -1 1000001 -", 7),
+        ("oneway R b 0 0 -1 - -", 6),
+        ("oneway R b 0 0 -1 -", 5),
+        ("gap R b 0 0 1 0 0", 7),
+        ("gap R c 0 0 1 0 -", 9),
+        ("gap A c 0 0 1 0 -", 8),
+        ("hanger H b - 0", 6),
+        ("hanger H b 0 0", 7),
+        ("hanger H b 1 -1", 7),
+        ("hanger H b 1 1000000001", 7),
+        ("hanger H b 1 0 0", 5),
         ("case c 0 0 0 2 0 0", 7),
         ("case c 0 0 0 1 0 0", 17),
         ("force c a 0 0 0 0 0 0", 9),
@@ -84,9 +99,105 @@ fn reads_what_it_may(rt: HostRuntime) {
         "\t# a comment: \t~",
         " node\tfar  30000000 0 0 # a comment",
         "twist B a 0 0 1 2000000000000",
+        "oneway R b 0 0 -1 1000000 -\ngap G b 0 1 0 0 2000000000000",
+        "hanger H b 2000000000000 1000000000\nhanger I b 1 0",
         "case c 0 0 0 0 0 0\nforce c b 0 0 -1000000 0 0 0\nforce c b 0 0 1 0 0 0",
     ] {
         judge_line(&rt, rt.alloc(), line, None);
+    }
+}
+
+// A header with a branch at b, and a pipe that runs on from c.
+const BRANCHED: &str = "pipeflex 1
+material st 200000 300 12000 7850
+section s st 168300 7110 0 0
+section w st 168300 8180 0 0
+node a 0 0 0
+node b 1000000 0 0
+node c 2000000 0 0
+node d 1000000 800000 0
+node e 3000000 0 0
+straight p a b s
+straight q b c s
+straight r b d s
+";
+
+#[test]
+fn judges_tees(rt: HostRuntime) {
+    for (lines, expected) in [
+        ("tee b r s unreinforced 0", None),
+        ("tee b r s pad 200000", None),
+        ("tee b r s coefficient 100", None),
+        ("tee b r s", Some((5, 13))),
+        ("tee b+ r s flat 0", Some((7, 13))),
+        ("tee z r s flat x", Some((9, 13))),
+        ("tee b r s unreinforced x", Some((6, 13))),
+        ("tee b r s unreinforced 1", Some((7, 13))),
+        ("tee b r s pad -", Some((6, 13))),
+        ("tee b r s pad 0", Some((7, 13))),
+        ("tee b r s pad 200001", Some((7, 13))),
+        ("tee b r s coefficient 99", Some((7, 13))),
+        ("tee b r s coefficient 100001", Some((7, 13))),
+        ("tee z r s pad 1", Some((9, 13))),
+        ("tee b z s pad 1", Some((9, 13))),
+        ("tee b r z pad 1", Some((9, 13))),
+        ("tee b r s pad 1\ntee b r s pad 2", Some((8, 14))),
+        ("tee b r s pad 1\ntee b r s - 2", Some((9, 14))),
+        // The branch is in line with the header.
+        ("tee b p s pad 1", Some((12, 13))),
+        // The header isn't of that section.
+        ("tee b r w pad 1", Some((12, 13))),
+        // Two elements end at the node, and four.
+        ("straight t c e s\ntee c q s pad 1", Some((12, 14))),
+        ("tee b r s pad 1\nstraight t b e s", Some((12, 13))),
+        // The branch doesn't end at the node.
+        ("straight t d e s\ntee b t s pad 1", Some((12, 14))),
+        // A line at fault comes before a tee that is broken.
+        ("tee b p s pad 1\nnode a 0 0 0", Some((8, 14))),
+    ] {
+        let text = format!(in rt.alloc(); "{BRANCHED}{lines}").expect(&rt, "memory");
+        judge(&rt, rt.alloc(), text.as_str(), expected);
+    }
+}
+
+// A branch at b, and a tee below it whose header is still to come.
+const BEFORE_HEADER: &str = "pipeflex 1
+material st 200000 300 12000 7850
+section s st 168300 7110 0 0
+section w st 60300 3910 0 0
+node a 0 0 0
+node b 1000000 0 0
+node c 2000000 0 0
+node d 1000000 800000 0
+node e 3000000 0 0
+node f 2000000 0 1
+node g 1458000 0 0
+# the branch
+straight r d b w
+tee b r s pad 1
+";
+
+// A tee is judged among all elements, also those behind it, and refused at its own line.
+#[test]
+fn judges_tees_at_the_end(rt: HostRuntime) {
+    for (lines, expected) in [
+        ("straight p a b s\nstraight q b c s", None),
+        ("straight p c b s\nstraight q b e s", None),
+        ("straight p a b s", Some((12, 14))),
+        ("straight p a b s\nstraight q b f s", Some((12, 14))),
+        ("straight p a b s\nstraight q b c w", Some((12, 14))),
+        (
+            "straight p a b s\nbend q b g s 229000 90000 1229000 300000 0",
+            Some((12, 16)),
+        ),
+        // A half circle's ends lie on the header's line.
+        (
+            "straight p a b s\nbend q b g s 229000 180000 1229000 300000 0",
+            Some((12, 14)),
+        ),
+    ] {
+        let text = format!(in rt.alloc(); "{BEFORE_HEADER}{lines}").expect(&rt, "memory");
+        judge(&rt, rt.alloc(), text.as_str(), expected);
     }
 }
 
@@ -132,17 +243,54 @@ node a 0 0 0
 case c 0 0 0 0 0 0
 force c a -1 2 -3 4 -5 6
 
+gap G a 0 0 -2 0 -
 twist T a 0 -1 0 7 # a rotation
+hanger H a 20000 500000
+oneway R a 1 0 0 5 6
 linear L a 3 0 4 -
 anchor A a - 10
 ";
     let sorted = "pipeflex 1
 node a 0 0 0
+gap G a 0 0 -2 0 -
 twist T a 0 -1 0 7
+hanger H a 20000 500000
+oneway R a 1 0 0 5 6
 linear L a 3 0 4 -
 anchor A a - 10
 case c 0 0 0 0 0 0
 force c a -1 2 -3 4 -5 6
+";
+    expect_echo(&rt, rt.alloc(), mixed, sorted);
+}
+
+#[test]
+fn echoes_tees(rt: HostRuntime) {
+    let mixed = "pipeflex 1
+material st 200000 300 12000 7850
+section s st 168300 7110 0 0
+node a 0 0 0
+node b 1000000 0 0
+node c 2000000 0 0
+node d 1000000 0 800000
+anchor A a - -
+straight r b d s
+tee  b\tr s coefficient 4400 # with a fitting
+straight p a b s
+straight q b c s
+";
+    let sorted = "pipeflex 1
+material st 200000 300 12000 7850
+section s st 168300 7110 0 0
+node a 0 0 0
+node b 1000000 0 0
+node c 2000000 0 0
+node d 1000000 0 800000
+straight r b d s
+straight p a b s
+straight q b c s
+tee b r s coefficient 4400
+anchor A a - -
 ";
     expect_echo(&rt, rt.alloc(), mixed, sorted);
 }

@@ -169,6 +169,251 @@ kappa 8 138824554943 138824554944
 end
 ";
 
+const ELBOW_HEAD: &str = "\
+pipeflex 1
+material st 200000 300 12000 7850
+section s st 168300 7110 0 0
+node a 0 0 0
+";
+
+const ELBOW: &str = "\
+pipeflex 1
+material st 200000 300 12000 7850
+section s st 168300 7110 0 0
+node a 0 0 0
+node b 229000 229000 0
+bend e a b s 229000 90000 229000 0 0
+";
+
+// With T R = 1,628,190 mm^2 and r2 = 80.595 mm the characteristic h is 0.250662, so k is 1.65 / h = 6.58256, ii is 0.9 / h^(2/3) and io
+// is 0.75 / h^(2/3). The stiffnesses were worked out by the rules of a bend in a few lines of Python, in exact whole numbers.
+const ELBOW_TABLE: &str = "\
+pipeflex members 1
+element e bend 6
+factor k 6582563 6582564 ii 2263861 2263862 io 1886551 1886552
+kappa 1 1037689499935 1037689499937
+kappa 2 107892269676078 107892269676089
+kappa 3 1280390905149576 1280390905149711
+kappa 4 1214819785725 1214819785726
+kappa 5 3022696077381 3022696077382
+kappa 6 187737538162367 187737538162386
+end
+";
+
+const THICK_HEAD: &str = "\
+pipeflex 1
+material st 200000 300 12000 7850
+section s st 100000 20000 0 0
+node a 0 0 0
+";
+
+// With T R = 1,200 mm^2 and r2 = 40 mm h is 0.75: k is 2.2, and the index across the plane is 1.
+const THICK_TABLE: &str = "\
+pipeflex members 1
+element e bend 6
+factor k 2199999 2200001 ii 1090272 1090273 io 1000000 1000000
+kappa 1 4321404121211 4321404121213
+kappa 2 5966459160007783 5966459160008216
+kappa 3 12561100837487729 12561100837489158
+kappa 4 4668395571410 4668395571412
+kappa 5 6496038253805 6496038253806
+kappa 6 7255195179336687 7255195179337271
+end
+";
+
+const RETURN_TABLE: &str = "\
+pipeflex members 1
+element e bend 6
+factor k 6582563 6582564 ii 2263861 2263862 io 1886551 1886552
+kappa 1 518844749967 518844749969
+kappa 2 19602958757335 19602958757338
+kappa 3 99507278726866 99507278726877
+kappa 4 866552744499 866552744500
+kappa 5 866552744499 866552744500
+kappa 6 57828213981803 57828213981809
+end
+";
+
+// An expansion loop of four elbows; its table was worked out as that of the elbow.
+const LOOP: &str = "\
+pipeflex 1
+# a flat expansion loop, 2.4 m deep and 2 m wide, in a line of 4 inch pipe, schedule 40, between two anchors 12 m apart
+material A106B 203400 300 11500 7850
+section NPS4-40 A106B 114300 6020 0 0
+node W 0 0 0
+node P1 4848000 0 0
+node P2 5000000 152000 0
+node P3 5000000 2248000 0
+node P4 5152000 2400000 0
+node P5 6848000 2400000 0
+node P6 7000000 2248000 0
+node P7 7000000 152000 0
+node P8 7152000 0 0
+node E 12000000 0 0
+straight west W P1 NPS4-40
+bend elbow1 P1 P2 NPS4-40 152000 90000 5000000 0 0
+straight out P2 P3 NPS4-40
+bend elbow2 P3 P4 NPS4-40 152000 90000 5000000 2400000 0
+straight top P4 P5 NPS4-40
+bend elbow3 P5 P6 NPS4-40 152000 90000 7000000 2400000 0
+straight back P6 P7 NPS4-40
+bend elbow4 P7 P8 NPS4-40 152000 90000 7000000 0 0
+straight east P8 E NPS4-40
+anchor foot W - -
+anchor head E - -
+";
+
+const LOOP_TABLE: &str = "\
+pipeflex members 1
+element west straight 8
+kappa 1 90091301661509 90091301661510
+kappa 2 101879391583 101879391584
+kappa 3 132443209058 132443209059
+kappa 4 132443209058 132443209059
+kappa 5 132443209058 132443209059
+kappa 6 67621643026 67621643027
+kappa 7 67621643026 67621643027
+kappa 8 67621643026 67621643027
+element elbow1 bend 6
+factor k 5285430 5285431 ii 1955720 1955721 io 1629767 1629768
+kappa 1 508801605846 508801605847
+kappa 2 119765817702375 119765817702404
+kappa 3 1251846508924054 1251846508924372
+kappa 4 589574331489 589574331490
+kappa 5 1328599294492 1328599294493
+kappa 6 186764541618814 186764541618860
+element out straight 8
+kappa 1 208379117583490 208379117583491
+kappa 2 235644699616 235644699618
+kappa 3 306338109502 306338109503
+kappa 4 306338109502 306338109503
+kappa 5 306338109502 306338109503
+kappa 6 836757699604 836757699607
+kappa 7 836757699604 836757699607
+kappa 8 836757699604 836757699607
+element elbow2 bend 6
+factor k 5285430 5285431 ii 1955720 1955721 io 1629767 1629768
+kappa 1 508801605846 508801605847
+kappa 2 119765817702375 119765817702404
+kappa 3 1251846508924054 1251846508924372
+kappa 4 589574331489 589574331490
+kappa 5 1328599294492 1328599294493
+kappa 6 186764541618814 186764541618860
+element top straight 8
+kappa 1 257525135881483 257525135881484
+kappa 2 291221279715 291221279717
+kappa 3 378587663630 378587663631
+kappa 4 378587663630 378587663631
+kappa 5 378587663630 378587663631
+kappa 6 1579414091550 1579414091555
+kappa 7 1579414091550 1579414091555
+kappa 8 1579414091550 1579414091555
+element elbow3 bend 6
+factor k 5285430 5285431 ii 1955720 1955721 io 1629767 1629768
+kappa 1 508801605846 508801605847
+kappa 2 119765817702375 119765817702404
+kappa 3 1251846508924054 1251846508924372
+kappa 4 589574331489 589574331490
+kappa 5 1328599294492 1328599294493
+kappa 6 186764541618814 186764541618860
+element back straight 8
+kappa 1 208379117583490 208379117583491
+kappa 2 235644699616 235644699618
+kappa 3 306338109502 306338109503
+kappa 4 306338109502 306338109503
+kappa 5 306338109502 306338109503
+kappa 6 836757699604 836757699607
+kappa 7 836757699604 836757699607
+kappa 8 836757699604 836757699607
+element elbow4 bend 6
+factor k 5285430 5285431 ii 1955720 1955721 io 1629767 1629768
+kappa 1 508801605846 508801605847
+kappa 2 119765817702375 119765817702404
+kappa 3 1251846508924054 1251846508924372
+kappa 4 589574331489 589574331490
+kappa 5 1328599294492 1328599294493
+kappa 6 186764541618814 186764541618860
+element east straight 8
+kappa 1 90091301661509 90091301661510
+kappa 2 101879391583 101879391584
+kappa 3 132443209058 132443209059
+kappa 4 132443209058 132443209059
+kappa 5 132443209058 132443209059
+kappa 6 67621643026 67621643027
+kappa 7 67621643026 67621643027
+kappa 8 67621643026 67621643027
+end
+";
+
+// A header with a branch. The stiffnesses are those of straights; the pad is as thick as the wall, so h is (1.5 T)^2.5 / (T^1.5 r2) and io
+// is 0.9 / h^(2/3), worked out by cubes of whole numbers in a few lines of Python.
+const BRANCHED: &str = "\
+pipeflex 1
+# a header of 6 inch pipe, schedule 40, 4 m long between two anchors, with a branch of 3 inch pipe upwards from its middle
+material A106B 203400 300 11500 7850
+section NPS6-40 A106B 168300 7110 0 0
+section NPS3-40 A106B 88900 5490 0 0
+node W 0 0 0
+node T 2000000 0 0
+node E 4000000 0 0
+node B 2000000 0 1500000
+straight west W T NPS6-40
+straight east T E NPS6-40
+straight branch T B NPS3-40
+tee T branch NPS6-40 pad 7110
+anchor foot W - -
+anchor head E - -
+";
+
+const BRANCHED_TABLE: &str = "\
+pipeflex members 1
+element west straight 8
+kappa 1 383953326789059 383953326789060
+kappa 2 961093072683 961093072685
+kappa 3 1249420994489 1249420994490
+kappa 4 1249420994489 1249420994490
+kappa 5 1249420994489 1249420994490
+kappa 6 3748262983467 3748262983470
+kappa 7 3748262983467 3748262983470
+kappa 8 3748262983467 3748262983470
+element east straight 8
+kappa 1 383953326789059 383953326789060
+kappa 2 961093072683 961093072685
+kappa 3 1249420994489 1249420994490
+kappa 4 1249420994489 1249420994490
+kappa 5 1249420994489 1249420994490
+kappa 6 3748262983467 3748262983470
+kappa 7 3748262983467 3748262983470
+kappa 8 3748262983467 3748262983470
+element branch straight 8
+kappa 1 204550215392847 204550215392848
+kappa 2 137429583686 137429583687
+kappa 3 178658458792 178658458793
+kappa 4 178658458792 178658458793
+kappa 5 178658458792 178658458793
+kappa 6 952845113557 952845113563
+kappa 7 952845113557 952845113563
+kappa 8 952845113557 952845113563
+tee T ii 1982915 1982916 io 2310553 2310554
+end
+";
+
+// Straights of a micrometre, which are too stiff, so that of each only the name is told.
+const TEE_HEAD: &str = "\
+pipeflex 1
+material st 200000 300 12000 7850
+section s st 168300 7110 0 0
+node a 0 0 0
+node b 1 0 0
+node c 2 0 0
+node d 1 1 0
+straight p a b s
+straight q b c s
+straight r b d s
+";
+
+const MISFIT: &str = "refused 12 line 6 geometry\n";
+
 const USAGE: &str =
     "usage: pipeflex analyse [--workers N] | members | echo | generate M | summary M [--workers N]\n";
 
@@ -233,6 +478,56 @@ restraint A -1 1 -1 1 -2290001 -2289999 -1 1 1565086 1565087 -1 1
 restraint T 724913 724914
 end
 ";
+
+// The same spring as a gap of nothing.
+const SHUT: &str = "\
+anchor A a - -
+gap R b 3 0 4 0 1000000
+case tip 0 0 0 0 0 0
+force tip b 0 0 -2249000 0 0 0
+";
+
+// A hanger of 1 N/um at the end, and 1,000 N down there; no hanger load acts. With c = L^3 / 3 E I + 1 / K + L^2 / K of the cantilever, or
+// 0.5752856 um/N, the end goes F c / (1 + 1 N/um c) = 365,194.48 nm down, and the hanger holds 365,194.48 mN. The anchor has the
+// remaining 634,805.52 mN, which turn the end by F L^2 / 2 E I + F L / K, and move the anchor by F / K.
+const HUNG: &str = "\
+anchor A a - -
+hanger H b 1000000 500000
+case tip 0 0 0 0 0 0
+force tip b 0 0 -1000000 0 0 0
+";
+
+const HUNG_REPORT: &str = "\
+pipeflex report 1
+model 2 1 2 1 0
+case tip certified
+node a -1 1 -1 1 -64 -63 -1 1 63 64 -1 1
+node b -1 1 -1 1 -365195 -365194 -1 1 547664 547665 -1 1
+restraint A -1 1 -1 1 -634806 -634805 -1 1 634805 634806 -1 1
+restraint H -365195 -365194
+end
+";
+
+// A pipe that rests on a support, and one with play on both sides of a guide.
+const SUPPORTED: &str = "\
+pipeflex 1
+material st 200000 300 12000 7850
+section s st 100000 10000 0 0
+node a 0 0 0
+node b 1000000 0 0
+straight p a b s
+anchor A a - -
+oneway R b 0 0 -1 0 -
+case tip 0 0 0 0 0 0
+force tip b 0 0 -1000000 0 0 0
+";
+
+const GUIDED: &str = "\
+anchor A a - -
+gap G b 0 1 0 1 -
+";
+
+const CONTACT: &str = "refused 17 line 1 unbuilt\n";
 
 const SECTION: &str = "\
 pipeflex 1
@@ -399,6 +694,151 @@ fn writes_tables_and_texts(rt: HostRuntime) -> Result<(), Fail> {
 }
 
 #[test]
+fn writes_bends(rt: HostRuntime) -> Result<(), Fail> {
+    let rows: [Row; 6] = [
+        (&["members"], (LOOP, ""), (Status::Done, LOOP_TABLE, "")),
+        (&["members"], (ELBOW, ""), (Status::Done, ELBOW_TABLE, "")),
+        (&["echo"], (ELBOW, ""), (Status::Done, ELBOW, "")),
+        (
+            &["members"],
+            (
+                THICK_HEAD,
+                "node b 60000 60000 0\nbend e a b s 60000 90000 60000 0 0\n",
+            ),
+            (Status::Done, THICK_TABLE, ""),
+        ),
+        // A half circle, whose corner is any point on its outer side.
+        (
+            &["members"],
+            (
+                ELBOW_HEAD,
+                "node b 458000 0 0\nbend e a b s 229000 180000 0 229000 0\n",
+            ),
+            (Status::Done, RETURN_TABLE, ""),
+        ),
+        // The other side of the chord has a bend of the same stiffness.
+        (
+            &["members"],
+            (
+                ELBOW_HEAD,
+                "node b 229000 229000 0\nbend e a b s 229000 90000 0 229000 0\n",
+            ),
+            (Status::Done, ELBOW_TABLE, ""),
+        ),
+    ];
+    for (words, text, want) in rows {
+        answers(&rt, rt.alloc(), words, text, want)?;
+    }
+    Ok(())
+}
+
+#[test]
+fn writes_tees(rt: HostRuntime) -> Result<(), Fail> {
+    let rows: [Row; 5] = [
+        (
+            &["members"],
+            (BRANCHED, ""),
+            (Status::Done, BRANCHED_TABLE, ""),
+        ),
+        // T = 7.11 mm and r2 = 80.595 mm: h is T / r2; 4 T / r2 with a pad over 1.5 T; 4.4 T / r2; and so great that both factors are 1.
+        (
+            &["members"],
+            (TEE_HEAD, "tee b r s unreinforced 0\n"),
+            (
+                Status::Done,
+                "pipeflex members 1\nelement p wide\nelement q wide\nelement r wide\ntee b ii 3656142 3656143 io 4541522 4541523\nend\n",
+                "",
+            ),
+        ),
+        (
+            &["members"],
+            (TEE_HEAD, "tee b r s pad 15000\n"),
+            (
+                Status::Done,
+                "pipeflex members 1\nelement p wide\nelement q wide\nelement r wide\ntee b ii 1601728 1601729 io 1802304 1802305\nend\n",
+                "",
+            ),
+        ),
+        (
+            &["members"],
+            (TEE_HEAD, "tee b r s coefficient 4400\n"),
+            (
+                Status::Done,
+                "pipeflex members 1\nelement p wide\nelement q wide\nelement r wide\ntee b ii 1518511 1518512 io 1691348 1691349\nend\n",
+                "",
+            ),
+        ),
+        (
+            &["members"],
+            (TEE_HEAD, "tee b r s coefficient 100000\n"),
+            (
+                Status::Done,
+                "pipeflex members 1\nelement p wide\nelement q wide\nelement r wide\ntee b ii 1000000 1000000 io 1000000 1000000\nend\n",
+                "",
+            ),
+        ),
+    ];
+    for (words, text, want) in rows {
+        answers(&rt, rt.alloc(), words, text, want)?;
+    }
+    Ok(())
+}
+
+#[test]
+fn refuses_bends(rt: HostRuntime) -> Result<(), Fail> {
+    let rows: [Row; 5] = [
+        // A chord of 325.3 mm, 1.4 mm more than the radius and the angle give.
+        (
+            &["members"],
+            (
+                ELBOW_HEAD,
+                "node b 229000 231000 0\nbend e a b s 229000 90000 229000 0 0\n",
+            ),
+            (Status::Refused, "", MISFIT),
+        ),
+        // Another angle.
+        (
+            &["echo"],
+            (
+                ELBOW_HEAD,
+                "node b 229000 229000 0\nbend e a b s 229000 45000 229000 0 0\n",
+            ),
+            (Status::Refused, "", MISFIT),
+        ),
+        // A radius below half of the diameter.
+        (
+            &["members"],
+            (
+                ELBOW_HEAD,
+                "node b 84000 84000 0\nbend e a b s 84000 90000 84000 0 0\n",
+            ),
+            (Status::Refused, "", MISFIT),
+        ),
+        // A corner on the line of the chord, and one that is far.
+        (
+            &["members"],
+            (
+                ELBOW_HEAD,
+                "node b 229000 229000 0\nbend e a b s 229000 90000 -50000 -50000 0\n",
+            ),
+            (Status::Refused, "", MISFIT),
+        ),
+        (
+            &["members"],
+            (
+                ELBOW_HEAD,
+                "node b 229000 229000 0\nbend e a b s 229000 90000 100000001 0 0\n",
+            ),
+            (Status::Refused, "", MISFIT),
+        ),
+    ];
+    for (words, text, want) in rows {
+        answers(&rt, rt.alloc(), words, text, want)?;
+    }
+    Ok(())
+}
+
+#[test]
 fn refuses_one_more_line(rt: HostRuntime) -> Result<(), Fail> {
     let rows: [Row; 4] = [
         // A line more that is refused.
@@ -528,7 +968,7 @@ fn analyses_one_straight(rt: HostRuntime) -> Result<(), Fail> {
 
 #[test]
 fn analyses_whole_models(rt: HostRuntime) -> Result<(), Fail> {
-    let rows: [Row; 3] = [
+    let rows: [Row; 6] = [
         (
             &["analyse"],
             (STRAIGHT, LINE),
@@ -544,6 +984,49 @@ fn analyses_whole_models(rt: HostRuntime) -> Result<(), Fail> {
             (STRAIGHT, TURNED),
             (Status::Done, TURNED_REPORT, ""),
         ),
+        (
+            &["analyse"],
+            (STRAIGHT, SHUT),
+            (Status::Done, SLOPED_REPORT, ""),
+        ),
+        (
+            &["analyse"],
+            (STRAIGHT, HUNG),
+            (Status::Done, HUNG_REPORT, ""),
+        ),
+        (
+            &["analyse", "--workers", "7"],
+            (STRAIGHT, HUNG),
+            (Status::Done, HUNG_REPORT, ""),
+        ),
+    ];
+    for (words, text, want) in rows {
+        answers(&rt, rt.alloc(), words, text, want)?;
+    }
+    Ok(())
+}
+
+#[test]
+fn analyses_no_contacts(rt: HostRuntime) -> Result<(), Fail> {
+    let rows: [Row; 5] = [
+        (
+            &["analyse"],
+            (SUPPORTED, ""),
+            (Status::Refused, "", CONTACT),
+        ),
+        (
+            &["analyse", "--workers", "7"],
+            (SUPPORTED, ""),
+            (Status::Refused, "", CONTACT),
+        ),
+        (
+            &["analyse"],
+            (STRAIGHT, GUIDED),
+            (Status::Refused, "", CONTACT),
+        ),
+        // The other commands take them.
+        (&["echo"], (SUPPORTED, ""), (Status::Done, SUPPORTED, "")),
+        (&["members"], (STRAIGHT, GUIDED), (Status::Done, TABLE, "")),
     ];
     for (words, text, want) in rows {
         answers(&rt, rt.alloc(), words, text, want)?;
@@ -751,7 +1234,7 @@ fn refuses_texts(rt: HostRuntime) -> Result<(), Fail> {
             "pipeflex 1\nmaterial st 200000 300 12000 7850\nsection s st 100000 50000 0 0\n",
             "refused 13 line 3 walltoothick\n",
         ),
-        ("pipeflex 1\nbend b\n", "refused 17 line 2 unbuilt\n"),
+        ("pipeflex 1\ntemp c\n", "refused 17 line 2 unbuilt\n"),
     ] {
         let want = (Status::Refused, "", line);
         answers(&rt, rt.alloc(), &["members"], (text, ""), want)?;
