@@ -6,13 +6,13 @@ use Rattle.std.specs.List.{list_all}
 use Rattle.std.specs.Str.{bytes_eq}
 use Rattle.model_types.specs.declared.records.Record.{Record}
 use Rattle.model_types.specs.declared.records.Record.TheVariants as record_of
-use Rattle.model_types.specs.Kinds.{Kind, material_kind, section_kind, node_kind, element_kind, tee_kind, restraint_kind, case_kind, force_kind, place, kind_of, count}
+use Rattle.model_types.specs.Kinds.{Kind, material_kind, section_kind, node_kind, element_kind, tee_kind, restraint_kind, case_kind, temp_kind, pressure_kind, force_kind, move_kind, place, kind_of, count}
 use Rattle.model_types.specs.Lists.{Lists, no_records, added}
 use Rattle.model_types.specs.Refusals.{refusal}
 use Rattle.model_text.specs.Fields.{◌>>=◌, refuse_if}
 use Rattle.text_words.specs.Fields.{lines}
 use Rattle.model_text.specs.Grammar.{after_lines, IsLineOf}
-use Rattle.model_text.specs.Lines.{State, start, after_line, after_words, is_header, is_loaded_case, is_of_kind, judged, makes, taken, record_taken}
+use Rattle.model_text.specs.Lines.{State, start, after_line, after_words, is_header, is_of_kind, judged, makes, taken, record_taken}
 use Rattle.model_text.specs.Records.{is_unbuilt, record_of_words, record_under}
 use Rattle.model_text.specs.Rows.{Field, form_of, kind_made, row, row_width, width, Values, made, read_field, read_row, record_in}
 use Rattle.model_text.specs.declared.records.Form.{Form}
@@ -63,7 +63,10 @@ kind_of_made form.Oneway vs = refl
 kind_of_made form.Gap vs = refl
 kind_of_made form.Hanger vs = refl
 kind_of_made form.Case vs = refl
+kind_of_made form.Temp vs = refl
+kind_of_made form.Pressure vs = refl
 kind_of_made form.Force vs = refl
+kind_of_made form.Move vs = refl
 
 -- a record is one more of its kind, and of no other
 count_added : (m : Lists) (r : Record) (k : Kind) → count (added m r) k ≡ count m k + one_if (place (kind_of r) == place k)
@@ -81,8 +84,14 @@ count_added m (record_of.Restraint r) restraint_kind = length-append m.restraint
 count_added m (record_of.Restraint r) k = omega arith
 count_added m (record_of.Case r) case_kind = length-append m.cases (r ∷ [])
 count_added m (record_of.Case r) k = omega arith
+count_added m (record_of.Temp r) temp_kind = length-append m.temps (r ∷ [])
+count_added m (record_of.Temp r) k = omega arith
+count_added m (record_of.Pressure r) pressure_kind = length-append m.pressures (r ∷ [])
+count_added m (record_of.Pressure r) k = omega arith
 count_added m (record_of.Force r) force_kind = length-append m.forces (r ∷ [])
 count_added m (record_of.Force r) k = omega arith
+count_added m (record_of.Move r) move_kind = length-append m.moves (r ∷ [])
+count_added m (record_of.Move r) k = omega arith
 
 module _ (m : Lists) (ws : List (List ℕ)) (r : Record) where
   -- the record of a line is of the kind of its first word's form
@@ -93,8 +102,7 @@ module _ (m : Lists) (ws : List (List ℕ)) (r : Record) where
 -- an accepted record is added
 judged_adds : (m made : Lists) (r : Record) (o : Option ℕ) → judged r o m ≡ Ok made → added m r ≡ made
 judged_adds m made r (Some n) e = absurd (err_no_ok made n e)
-judged_adds m made r None e =
-    by_test made (is_loaded_case r) (Err 17) (Ok (added m r)) e (λ _ e. absurd (err_no_ok made 17 e)) (λ _ e. ok_same (Ok (added m r)) (added m r) made refl e)
+judged_adds m made r None e = ok_same (Ok (added m r)) (added m r) made refl e
 
 -- the header makes no record
 header_makes : (k : Kind) → made_under k (codes "pipeflex") ≡ 0
@@ -148,7 +156,10 @@ none_counted element_kind = refl
 none_counted tee_kind = refl
 none_counted restraint_kind = refl
 none_counted case_kind = refl
+none_counted temp_kind = refl
+none_counted pressure_kind = refl
 none_counted force_kind = refl
+none_counted move_kind = refl
 
 -- nothing has been read
 pub IsReadUpTo-none : (text : List ℕ) (k : Kind) (number : ℕ) → IsReadUpTo text (lines text) k 1 0 number

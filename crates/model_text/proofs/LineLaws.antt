@@ -1,20 +1,15 @@
--- What holds of all lines of a text: a record is made by one of them, and a case that is read is at rest.
-use Rattle.std.proofs.Common.{◌≡◌, ◌<◌, ◌≤◌, ℕ, zero, suc, ◌+◌, ◌==◌, Bool, true, false, not, List, [], ◌∷◌, ◌++◌, length, length-append, All, Option, Some, None, Result, Ok, Err, inl, inr, subst, refl, sym, ap, ◌∙◌, le_refl, arith}
+-- What holds of all lines of a text: a record is made by one of them.
+use Rattle.std.proofs.Common.{◌≡◌, ◌<◌, ◌≤◌, ℕ, zero, suc, ◌+◌, Bool, true, false, List, [], ◌∷◌, ◌++◌, length, length-append, Result, Ok, Err, inl, inr, subst, refl, sym, ap, ◌∙◌, le_refl, arith}
 use Rattle.std.proofs.lemmas.Bool.{cases_lt, cond-true, cond-false}
-use Rattle.std.proofs.lemmas.List.Elements.{All-push, All-nil}
-use Rattle.std.specs.List.{list_all, slice_index_or}
-use Rattle.model_types.specs.declared.records.Record.{Record}
-use Rattle.model_types.specs.declared.records.Record.TheVariants as record_of
+use Rattle.std.specs.List.{slice_index_or}
 use Rattle.model_types.specs.Kinds.{Kind, count}
-use Rattle.model_types.specs.Lists.{Lists, no_records, added}
-use Rattle.model_types.specs.Refusals.{refusal}
+use Rattle.model_types.specs.Lists.{no_records}
 use Rattle.text_words.specs.Fields.{lines}
-use Rattle.model_text.specs.Grammar.{after_lines, IsLineOf, LinesAreDetermined, LinesAreTold, CasesAreAtRest}
-use Rattle.model_text.specs.Lines.{State, start, after_line, after_words, is_at_rest, is_header, is_loaded_case, judged, makes, making, record_taken, taken}
-use Rattle.model_text.specs.Records.{record_of_words}
-use Rattle.model_text.specs.Words.{words, word, is_allowed}
-use Rattle.model_text.proofs.KindLines.{by_test, by_step, line_made, one_if, none_counted}
-use Rattle.model_text.proofs.LineLemmas.{ok_same, err_no_ok, after_lines-nil, after_lines-Ok, after_lines-Err, after_lines-append, parsed-stands}
+use Rattle.model_text.specs.Grammar.{after_lines, IsLineOf, LinesAreDetermined, LinesAreTold}
+use Rattle.model_text.specs.Lines.{State, start, after_line, makes, making}
+use Rattle.model_text.specs.Words.{words, word}
+use Rattle.model_text.proofs.KindLines.{line_made, one_if, none_counted}
+use Rattle.model_text.proofs.LineLemmas.{ok_same, err_no_ok, after_lines-nil, after_lines-Ok, after_lines-Err, after_lines-append}
 
 -- ---- what every accepted line keeps
 
@@ -176,50 +171,3 @@ lines_are_told text made k number all there =
       not_before = omega (arith, is_number, from.not_before);
       there = omega (arith, is_number, from.there);
     }
-
--- ---- the cases
-
-abbrev AreAtRest : Lists → Type 0
-AreAtRest m = All (λ c. is_at_rest c ≡ true) m.cases
-
-at_rest : (b : Bool) → not b ≡ false → b ≡ true
-at_rest true e = refl
-at_rest false e = absurd (cc e)
-
--- a record that is no loaded case leaves the cases at rest
-added_at_rest : (m : Lists) (r : Record) → is_loaded_case r ≡ false → AreAtRest m → AreAtRest (added m r)
-added_at_rest m (record_of.Material r) rest all = all
-added_at_rest m (record_of.Section r) rest all = all
-added_at_rest m (record_of.Node r) rest all = all
-added_at_rest m (record_of.Element r) rest all = all
-added_at_rest m (record_of.Tee r) rest all = all
-added_at_rest m (record_of.Restraint r) rest all = all
-added_at_rest m (record_of.Case c) rest all = All-push (λ c. is_at_rest c ≡ true) m.cases c all (at_rest (is_at_rest c) rest)
-added_at_rest m (record_of.Force r) rest all = all
-
--- a record that is taken is added, where it is no loaded case
-judged_at_rest : (m made : Lists) (r : Record) (o : Option ℕ) → judged r o m ≡ Ok made → AreAtRest m → AreAtRest made
-judged_at_rest m made r (Some n) e all = absurd (err_no_ok made n e)
-judged_at_rest m made r None e all =
-    by_test made (is_loaded_case r) (Err 17) (Ok (added m r)) e (λ _ e. absurd (err_no_ok made 17 e))
-    (λ rest e. subst AreAtRest (ok_same (Ok (added m r)) (added m r) made refl e) (added_at_rest m r rest all))
-
-module _ (s t : State) (all : AreAtRest s.draft) where
-  abbrev Kept : State → Type 0
-  Kept u = AreAtRest u.draft
-
-  words_at_rest : (ws : List (List ℕ)) → after_words s ws ≡ Ok t → Kept t
-  words_at_rest ws e =
-      by_test t (length ws == 0) _ _ e (λ _ e. subst Kept (ok_same (Ok s) s t refl e) all) (λ _ e.
-      by_test t s.header _ _ e (λ _ e.
-      by_step t (record_taken s.draft ws) (λ m. Ok (record s { draft = m })) e (λ m is e.
-      by_step m (record_of_words s.draft ws) (taken s.draft) is (λ r found is.
-      subst Kept (ok_same (Ok (record s { draft = m })) (record s { draft = m }) t refl e) (judged_at_rest s.draft m r (refusal s.draft r) is all)))) (λ _ e.
-      by_test t (is_header ws) _ _ e (λ _ e. subst Kept (ok_same (Ok (record s { header = true })) (record s { header = true }) t refl e) all) (λ _ e. absurd (err_no_ok t 3 e))))
-
-  line_at_rest : (line : List ℕ) → after_line s line ≡ Ok t → Kept t
-  line_at_rest line e = by_test t (list_all is_allowed line) _ _ e (λ _ e. words_at_rest (words line) e) (λ _ e. absurd (err_no_ok t 2 e))
-
-pub cases_are_at_rest : CasesAreAtRest
-cases_are_at_rest text m is =
-    lines_keep (λ s. AreAtRest s.draft) (λ s t line e all. line_at_rest s t all line e) start (record { header = true; draft = m }) 1 (lines text) (parsed-stands text m is).accepted.accepted (All-nil (λ c. is_at_rest c ≡ true))

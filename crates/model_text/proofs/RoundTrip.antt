@@ -1,23 +1,22 @@
 -- A model's canonical text is read as the model.
-use Rattle.std.proofs.Common.{◌≡◌, ℕ, ◌+◌, ◌<◌, ◌≤◌, ◌==◌, true, false, List, [], ◌∷◌, ◌++◌, flat_map, take, length, length-append, slice_get, Some, Result, Ok, Err, IfOk, codes, refl, sym, ap, subst, ◌∙◌, append_assoc, append-nil, arith}
+use Rattle.std.proofs.Common.{◌≡◌, ℕ, ◌+◌, ◌<◌, ◌≤◌, ◌==◌, List, [], ◌∷◌, ◌++◌, flat_map, take, length, length-append, slice_get, Some, Result, Ok, Err, IfOk, codes, refl, sym, ap, subst, ◌∙◌, append_assoc, append-nil, arith}
 use Rattle.std.proofs.Math.Seq.{take-length}
-use Rattle.std.proofs.lemmas.Bool.{cond-false, ne_eqb, not_from_true}
+use Rattle.std.proofs.lemmas.Bool.{cond-false, ne_eqb}
 use Rattle.std.proofs.lemmas.List.{get_or_at, take_more}
 use Rattle.std.proofs.lemmas.Option.{slice_get-get_or, slice_get_within, get_or_from_slice_get}
 use Rattle.std.specs.List.{join_with_byte}
 use Rattle.text_words.specs.Fields.{line, lines}
-use Rattle.model_types.specs.declared.records.Case.{Case}
 use Rattle.model_types.specs.declared.records.RestraintKind.{RestraintKind}
 use Rattle.model_types.specs.declared.records.RestraintKind.TheVariants.{Anchor, Linear, Twist, Oneway, Gap, Hanger}
-use Rattle.model_types.specs.Kinds.{Kind, material_kind, section_kind, node_kind, element_kind, tee_kind, restraint_kind, case_kind, force_kind, kinds, place, Of, list, as_record, before_place, before}
+use Rattle.model_types.specs.Kinds.{Kind, material_kind, section_kind, node_kind, element_kind, tee_kind, restraint_kind, case_kind, temp_kind, pressure_kind, force_kind, move_kind, kinds, place, Of, list, as_record, before_place, before}
 use Rattle.model_types.specs.Lists.{Lists, no_records, added}
 use Rattle.model_types.specs.Refusals.{RecordsFollow}
 use Rattle.model_types.specs.Rules.{IsModel}
 use Rattle.model_types.specs.Tees.{TeesAreJudged}
 use Rattle.model_text.specs.Canonical.{canonical, record_lines, kind_lines}
 use Rattle.model_text.specs.Grammar.{after_lines, parsed, whole, without_broken}
-use Rattle.model_text.specs.Lines.{State, start, is_at_rest, is_loaded_case}
-use Rattle.model_text.specs.RoundTrip.{AreCasesAtRest, CanonicalReadsBack}
+use Rattle.model_text.specs.Lines.{State, start}
+use Rattle.model_text.specs.RoundTrip.{CanonicalReadsBack}
 use Rattle.model_text.specs.Rows.{restraint_words, words_of}
 use Rattle.model_text.proofs.LineLemmas.{after_lines-Ok, after_lines-nil, parsed-lines}
 use Rattle.model_text.proofs.PlainWords.{no_words, one_more, lines-line}
@@ -42,67 +41,68 @@ restraint_same m i name node (Oneway x y z gap k) = refl
 restraint_same m i name node (Gap x y z gap k) = refl
 restraint_same m i name node (Hanger rate load) = refl
 
-case_calm : (m : Lists) → AreCasesAtRest m → (i : ℕ) (x : Case) → slice_get m.cases i ≡ Some x → is_loaded_case (as_record case_kind x) ≡ false
-case_calm m rest i x at =
-    let here : is_at_rest x ≡ true = subst (λ y. is_at_rest y ≡ true) (get_or_from_slice_get m.cases i x x at) (rest i x (slice_get_within m.cases i x at)) in
-    not_from_true (is_at_rest x) here
-
 -- what a kind's definitions say of its records behind those before them: one more is the next, all of them stand before the next kind,
--- their words are those in the whole model, and no case is loaded
+-- and their words are those in the whole model
 record OfKind (k : Kind) : Type 0 where
   next : (m : Lists) (i : ℕ) (x : Of k) → take (i + 1) (list m k) ≡ take i (list m k) ++ x ∷ [] → added (before m k i) (as_record k x) ≡ before m k (i + 1)
   whole : (m : Lists) → before m k (length (list m k)) ≡ before_place m (place k + 1) 0
   words : (m : Lists) (i : ℕ) (x : Of k) → words_of (before m k i) (as_record k x) ≡ words_of m (as_record k x)
-  calm : (m : Lists) → AreCasesAtRest m → (i : ℕ) (x : Of k) → slice_get (list m k) i ≡ Some x → is_loaded_case (as_record k x) ≡ false
 
 of_kind : (k : Kind) → OfKind k
 of_kind material_kind = record {
   next = λ m i x more. ap (λ xs. record (before_place m 0 0) { materials = xs }) (sym more);
   whole = λ m. ap (λ xs. record (before_place m 0 0) { materials = xs }) (take-length m.materials);
   words = λ m i x. refl;
-  calm = λ m rest i x at. refl;
 }
 of_kind section_kind = record {
   next = λ m i x more. ap (λ xs. record (before_place m 1 0) { sections = xs }) (sym more);
   whole = λ m. ap (λ xs. record (before_place m 1 0) { sections = xs }) (take-length m.sections);
   words = λ m i x. refl;
-  calm = λ m rest i x at. refl;
 }
 of_kind node_kind = record {
   next = λ m i x more. ap (λ xs. record (before_place m 2 0) { nodes = xs }) (sym more);
   whole = λ m. ap (λ xs. record (before_place m 2 0) { nodes = xs }) (take-length m.nodes);
   words = λ m i x. refl;
-  calm = λ m rest i x at. refl;
 }
 of_kind element_kind = record {
   next = λ m i x more. ap (λ xs. record (before_place m 3 0) { elements = xs }) (sym more);
   whole = λ m. ap (λ xs. record (before_place m 3 0) { elements = xs }) (take-length m.elements);
   words = λ m i x. refl;
-  calm = λ m rest i x at. refl;
 }
 of_kind tee_kind = record {
   next = λ m i x more. ap (λ xs. record (before_place m 4 0) { tees = xs }) (sym more);
   whole = λ m. ap (λ xs. record (before_place m 4 0) { tees = xs }) (take-length m.tees);
   words = λ m i x. refl;
-  calm = λ m rest i x at. refl;
 }
 of_kind restraint_kind = record {
   next = λ m i x more. ap (λ xs. record (before_place m 5 0) { restraints = xs }) (sym more);
   whole = λ m. ap (λ xs. record (before_place m 5 0) { restraints = xs }) (take-length m.restraints);
   words = λ m i x. restraint_same m i x.name x.node.0 x.kind;
-  calm = λ m rest i x at. refl;
 }
 of_kind case_kind = record {
   next = λ m i x more. ap (λ xs. record (before_place m 6 0) { cases = xs }) (sym more);
   whole = λ m. ap (λ xs. record (before_place m 6 0) { cases = xs }) (take-length m.cases);
   words = λ m i x. refl;
-  calm = λ m rest i x at. case_calm m rest i x at;
+}
+of_kind temp_kind = record {
+  next = λ m i x more. ap (λ xs. record (before_place m 7 0) { temps = xs }) (sym more);
+  whole = λ m. ap (λ xs. record (before_place m 7 0) { temps = xs }) (take-length m.temps);
+  words = λ m i x. refl;
+}
+of_kind pressure_kind = record {
+  next = λ m i x more. ap (λ xs. record (before_place m 8 0) { pressures = xs }) (sym more);
+  whole = λ m. ap (λ xs. record (before_place m 8 0) { pressures = xs }) (take-length m.pressures);
+  words = λ m i x. refl;
 }
 of_kind force_kind = record {
-  next = λ m i x more. ap (λ xs. record (before_place m 7 0) { forces = xs }) (sym more);
-  whole = λ m. ap (λ xs. record (before_place m 7 0) { forces = xs }) (take-length m.forces);
+  next = λ m i x more. ap (λ xs. record (before_place m 9 0) { forces = xs }) (sym more);
+  whole = λ m. ap (λ xs. record (before_place m 9 0) { forces = xs }) (take-length m.forces);
   words = λ m i x. refl;
-  calm = λ m rest i x at. refl;
+}
+of_kind move_kind = record {
+  next = λ m i x more. ap (λ xs. record (before_place m 10 0) { moves = xs }) (sym more);
+  whole = λ m. ap (λ xs. record (before_place m 10 0) { moves = xs }) (take-length m.moves);
+  words = λ m i x. refl;
 }
 
 -- kinds from a place on, in their order
@@ -110,7 +110,7 @@ abbrev AreFrom : ℕ → List Kind → Type 0
 AreFrom n [] = Unit {0}
 AreFrom n (k ∷ ks) = (place k ≡ n) × AreFrom (n + 1) ks
 
-module _ (follow : RecordsFollow) (judged : TeesAreJudged) (m : Lists) (is : IsModel m) (at_rest : AreCasesAtRest m) where
+module _ (follow : RecordsFollow) (judged : TeesAreJudged) (m : Lists) (is : IsModel m) where
   module _ (k : Kind) (rest : List ℕ) where
     -- one record of a kind is read
     Leads-one : (i : ℕ) (x : Of k) (left : List ℕ) → slice_get (list m k) i ≡ Some x → Leads (below (before m k i)) (line (words_of m (as_record k x)) ++ left) (below (before m k (i + 1))) left
@@ -119,7 +119,7 @@ module _ (follow : RecordsFollow) (judged : TeesAreJudged) (m : Lists) (is : IsM
         let r = as_record k x in
         let words : IsWritten p r (words_of m r) = subst (IsWritten p r) ((of_kind k).words m i x) (written m is k i x (is.rules.records k i x at)) in
         subst (λ l. Leads (below p) (line (words_of m r) ++ left) (below l) left) ((of_kind k).next m i x (one_more_taken (list m k) i x at))
-        (Leads-record p r (follow m is.rules k i x at) ((of_kind k).calm m at_rest i x at) (words_of m r) words left)
+        (Leads-record p r (follow m is.rules k i x at) (words_of m r) words left)
 
     -- the records that are left of a kind
     Leads-left : (done left : List (Of k)) → list m k ≡ done ++ left → Leads (below (before m k (length done))) (record_lines m (as_record k) left ++ rest) (below (before m k (length (list m k)))) rest
@@ -162,13 +162,13 @@ module _ (follow : RecordsFollow) (judged : TeesAreJudged) (m : Lists) (is : IsM
   }
 
   -- behind all kinds stands the whole model
-  all_read : before_place m 8 0 ≡ m
-  all_read = ap (λ o. record m { temps = o.temps; pressures = o.pressures; moves = o.moves; checks = o.checks }) (sym is.rules.other_kinds)
+  all_read : before_place m 11 0 ≡ m
+  all_read = ap (λ none. record m { checks = none }) (sym is.rules.no_check)
 
   Leads-all : Leads start (canonical m) (below m) []
   unfolding canonical
   Leads-all =
-      let kinds_read : Leads (below no_records) (flat_map (kind_lines m) kinds) (below (before_place m 8 0)) [] = Leads-kinds kinds 0 (refl, (refl, (refl, (refl, (refl, (refl, (refl, (refl, tt)))))))) in
+      let kinds_read : Leads (below no_records) (flat_map (kind_lines m) kinds) (below (before_place m 11 0)) [] = Leads-kinds kinds 0 (refl, (refl, (refl, (refl, (refl, (refl, (refl, (refl, (refl, (refl, (refl, tt))))))))))) in
       Leads-on _ _ _ _ (flat_map (kind_lines m) kinds) [] (Leads-header (flat_map (kind_lines m) kinds)) (subst (λ l. Leads (below no_records) (flat_map (kind_lines m) kinds) (below l) []) all_read kinds_read)
 
   all_lines : after_lines start 1 (lines (canonical m)) ≡ Ok (below m)
@@ -182,12 +182,12 @@ module _ (follow : RecordsFollow) (judged : TeesAreJudged) (m : Lists) (is : IsM
       cond-false (length m.nodes == 0) (Err (record { number = 15; line = 1 })) _ (ne_eqb (length m.nodes) 0 (λ none. omega (arith, is.some_node)))
       ∙ ap (λ o. without_broken all o m) ((judged m).1 is.tees_made)
 
-canonical_reads_back : RecordsFollow → TeesAreJudged → CanonicalReadsBack
-canonical_reads_back follow judged m is at_rest short =
-    parsed-lines (canonical m) short ∙ ap (whole (lines (canonical m))) (all_lines follow judged m is at_rest) ∙ whole_model follow judged m is at_rest (lines (canonical m))
+pub canonical_reads_back : RecordsFollow → TeesAreJudged → CanonicalReadsBack
+canonical_reads_back follow judged m is short =
+    parsed-lines (canonical m) short ∙ ap (whole (lines (canonical m))) (all_lines follow judged m is) ∙ whole_model follow judged m is (lines (canonical m))
 
 -- the same for a text that is known to be canonical, where there is one
 pub if_reads_back : {T E : Type 0} → RecordsFollow → TeesAreJudged → (m : Lists) (items : T → List ℕ) (r : Result T E) → IsModel m → IfOk r (λ text. items text ≡ canonical m)
-    → IfOk r (λ text. AreCasesAtRest m → length (items text) ≤ 4194304 → parsed (items text) ≡ Ok m)
-if_reads_back follow judged m items (Ok text) is same = subst (λ bytes. AreCasesAtRest m → length bytes ≤ 4194304 → parsed bytes ≡ Ok m) (sym same) (canonical_reads_back follow judged m is)
+    → IfOk r (λ text. length (items text) ≤ 4194304 → parsed (items text) ≡ Ok m)
+if_reads_back follow judged m items (Ok text) is same = subst (λ bytes. length bytes ≤ 4194304 → parsed bytes ≡ Ok m) (sym same) (canonical_reads_back follow judged m is)
 if_reads_back follow judged m items (Err e) is same = tt

@@ -1,5 +1,5 @@
 -- The lines of records are read one after the other.
-use Rattle.std.proofs.Common.{◌≡◌, ℕ, ◌+◌, ◌==◌, true, false, List, ◌++◌, length, None, Ok, Err, refl, ap, ◌∙◌}
+use Rattle.std.proofs.Common.{◌≡◌, ℕ, ◌+◌, ◌==◌, true, List, ◌++◌, length, None, Ok, Err, refl, ap, ◌∙◌}
 use Rattle.std.proofs.lemmas.Bool.{cond-true, cond-false}
 use Rattle.std.specs.List.{list_all, join_with_byte}
 use Rattle.text_words.specs.Fields.{line, lines}
@@ -7,7 +7,7 @@ use Rattle.model_types.specs.declared.records.Record.{Record}
 use Rattle.model_types.specs.Lists.{Lists, added}
 use Rattle.model_types.specs.Refusals.{refusal}
 use Rattle.model_text.specs.Grammar.{after_lines}
-use Rattle.model_text.specs.Lines.{State, after_line, after_words, is_loaded_case, judged, record_taken, taken}
+use Rattle.model_text.specs.Lines.{State, after_line, after_words, judged, record_taken, taken}
 use Rattle.model_text.specs.Records.{record_of_words}
 use Rattle.model_text.specs.Words.{is_allowed, words}
 use Rattle.model_text.proofs.LineLemmas.{after_lines-Ok}
@@ -31,9 +31,9 @@ Leads-on s t u text middle left first second = record {
 abbrev pub below : Lists → State
 below m = record { header = true; draft = m }
 
-module _ (m : Lists) (r : Record) (accepted : refusal m r ≡ None) (calm : is_loaded_case r ≡ false) where
+module _ (m : Lists) (r : Record) (accepted : refusal m r ≡ None) where
   taken_next : taken m r ≡ Ok (added m r)
-  taken_next = ap (λ o. judged r o m) accepted ∙ cond-false (is_loaded_case r) (Err 17) (Ok (added m r)) calm
+  taken_next = ap (λ o. judged r o m) accepted
 
   module _ (ws : List (List ℕ)) (is : IsWritten m r ws) where
     words_read : after_words (below m) ws ≡ Ok (below (added m r))

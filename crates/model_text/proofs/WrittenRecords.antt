@@ -13,7 +13,7 @@ use Rattle.model_types.specs.declared.records.Record.TheVariants as record_of
 use Rattle.model_types.specs.declared.ids.Space.TheVariants as space_of
 use Rattle.model_types.specs.Lists.{Lists, names_in}
 use Rattle.model_types.specs.Ranges.{KindInForm, ShapeInForm}
-use Rattle.model_types.specs.Kinds.{Kind, material_kind, section_kind, node_kind, element_kind, tee_kind, restraint_kind, case_kind, force_kind, Of, as_record, before}
+use Rattle.model_types.specs.Kinds.{Kind, material_kind, section_kind, node_kind, element_kind, tee_kind, restraint_kind, case_kind, temp_kind, pressure_kind, force_kind, move_kind, Of, as_record, before}
 use Rattle.model_types.specs.Rules.{Keeps, IsModel}
 use Rattle.model_text.specs.Records.{record_of_words, record_under}
 use Rattle.model_text.specs.Rows.{first_word, form_of, row, Values, made, form_words, element_words, restraint_words, words_of}
@@ -56,7 +56,10 @@ form form_named.Oneway = record { word = refl; short = refl; found = refl }
 form form_named.Gap = record { word = refl; short = refl; found = refl }
 form form_named.Hanger = record { word = refl; short = refl; found = refl }
 form form_named.Case = record { word = refl; short = refl; found = refl }
+form form_named.Temp = record { word = refl; short = refl; found = refl }
+form form_named.Pressure = record { word = refl; short = refl; found = refl }
 form form_named.Force = record { word = refl; short = refl; found = refl }
+form form_named.Move = record { word = refl; short = refl; found = refl }
 
 module _ (m : Lists) where
   form_written : (f : Form) (vs : Values (row f)) → AreInRow m (row f) vs → IsWritten m (made f vs) (form_words m f vs)
@@ -103,6 +106,9 @@ module _ (m : Lists) (is : IsModel m) where
   case_at : (n : ℕ) → n < length m.cases → IsNamed (names_in m space_of.Case) n
   case_at n inside = named (λ x. x.name) (λ x. Keeps m (record_of.Case x)) (λ x k. k.form.name) m.cases n is.kept.cases (is.rules.distinct case_kind refl) inside
 
+  restraint_at : (n : ℕ) → n < length m.restraints → IsNamed (names_in m space_of.Restraint) n
+  restraint_at n inside = named (λ x. x.name) (λ x. Keeps m (record_of.Restraint x)) (λ x k. k.form.0) m.restraints n is.kept.restraints (is.rules.distinct restraint_kind refl) inside
+
   pub written : (k : Kind) (i : ℕ) (x : Of k) → Keeps (before m k i) (as_record k x) → IsWritten (before m k i) (as_record k x) (words_of (before m k i) (as_record k x))
   written material_kind i r k =
       let f = k.form in
@@ -123,7 +129,15 @@ module _ (m : Lists) (is : IsModel m) where
   written case_kind i r k =
       let f = k.form in
       form_written (before m case_kind i) form_named.Case (r.name, (r.gx, (r.gy, (r.gz, (r.hangers, (r.dt, (r.p, tt))))))) (f.name, (f.gx, (f.gy, (f.gz, (tt, (f.dt, (f.p, tt)))))))
+  written temp_kind i r k =
+      form_written (before m temp_kind i) form_named.Temp (r.case.0, (r.section.0, (r.dt, tt))) (case_at r.case.0 k.known.0, (section_at r.section.0 k.known.1.0, (k.form, tt)))
+  written pressure_kind i r k =
+      form_written (before m pressure_kind i) form_named.Pressure (r.case.0, (r.section.0, (r.p, tt))) (case_at r.case.0 k.known.0, (section_at r.section.0 k.known.1.0, (k.form, tt)))
   written force_kind i r k =
       let f = k.form in
       form_written (before m force_kind i) form_named.Force (r.case.0, (r.node.0, (r.fx, (r.fy, (r.fz, (r.mx, (r.my, (r.mz, tt))))))))
       (case_at r.case.0 k.known.0, (node_at r.node.0 k.known.1.0, (f.fx, (f.fy, (f.fz, (f.mx, (f.my, (f.mz, tt))))))))
+  written move_kind i r k =
+      let f = k.form in
+      form_written (before m move_kind i) form_named.Move (r.case.0, (r.anchor.0, (r.x, (r.y, (r.z, tt)))))
+      (case_at r.case.0 k.known.0, (restraint_at r.anchor.0 k.known.1.0, (f.x, (f.y, (f.z, tt)))))

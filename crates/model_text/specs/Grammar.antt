@@ -1,11 +1,11 @@
 -- The model text: the lists that it stands for, or the number and line of its refusal.
-use Rattle.std.specs.Prelude.{◌≡◌, ◌≢◌, ◌↔◌, ℕ, ◌+◌, ◌<◌, ◌≤◌, ◌==◌, true, false, nat_lt, List, [], ◌∷◌, ◌++◌, length, All, Option, Some, None, Result, Ok, Err, if◌then◌else◌}
+use Rattle.std.specs.Prelude.{◌≡◌, ◌≢◌, ◌↔◌, ℕ, ◌+◌, ◌<◌, ◌≤◌, ◌==◌, true, false, nat_lt, List, [], ◌∷◌, ◌++◌, length, Option, Some, None, Result, Ok, Err, if◌then◌else◌}
 use Rattle.model_types.specs.Kinds.{Kind, tee_kind, count}
 use Rattle.model_types.specs.Lists.{Lists}
 use Rattle.model_types.specs.Tees.{broken_tee}
 use Rattle.text_words.specs.Fields.{lines}
 use Rattle.model_text.specs.declared.reader.TheConstants.{LONGEST_TEXT}
-use Rattle.model_text.specs.Lines.{State, start, after_line, is_at_rest, making_line}
+use Rattle.model_text.specs.Lines.{State, start, after_line, making_line}
 
 -- a number that refuses the text, and the line to which it points
 pub record Refusal : Type 0 where
@@ -98,7 +98,3 @@ LinesAreDetermined = (text : List ℕ) (k : Kind) (number line other : ℕ) → 
 -- the line that the grammar tells makes the record
 abbrev pub LinesAreTold : Type 0
 LinesAreTold = (text : List ℕ) (made : State) (k : Kind) (number : ℕ) → AreAccepted text made → number < count made.draft k → IsLineOf text k number (making_line k number (lines text))
-
--- all numbers of each case are 0
-abbrev pub CasesAreAtRest : Type 0
-CasesAreAtRest = (text : List ℕ) (m : Lists) → parsed text ≡ Ok m → All (λ c. is_at_rest c ≡ true) m.cases

@@ -1,11 +1,8 @@
 -- What a line of the text makes of the lines before it.
-use Rattle.std.specs.Prelude.{ℕ, ◌+◌, [], ◌∷◌, ◌==◌, ◌&&◌, Bool, true, false, not, pos, List, length, Option, Some, None, Result, Ok, Err, if◌then◌else◌, codes}
-use Rattle.std.specs.Ordering.{int_eq}
+use Rattle.std.specs.Prelude.{ℕ, ◌+◌, [], ◌∷◌, ◌==◌, ◌&&◌, Bool, true, false, List, length, Option, Some, None, Result, Ok, Err, if◌then◌else◌, codes}
 use Rattle.std.specs.List.{list_all, slice_index_or}
 use Rattle.std.specs.Str.{bytes_eq}
-use Rattle.model_types.specs.declared.records.Case.{Case}
 use Rattle.model_types.specs.declared.records.Record.{Record}
-use Rattle.model_types.specs.declared.records.Record.TheVariants as record_of
 use Rattle.model_types.specs.declared.faults.AddFault.{AddFault}
 use Rattle.model_types.specs.declared.faults.AddFault.TheVariants as line_fault
 use Rattle.model_types.specs.Kinds.{Kind, place}
@@ -28,25 +25,10 @@ pub record State : Type 0 where
 abbrev pub start : State
 start = record { header = false; draft = no_records }
 
--- all numbers of a case are 0
-abbrev pub is_at_rest : Case → Bool
-is_at_rest c = int_eq c.gx (pos 0) && int_eq c.gy (pos 0) && int_eq c.gz (pos 0) && not c.hangers && int_eq c.dt (pos 0) && int_eq c.p (pos 0)
-
--- a case with a load of its own, which isn't read yet
-abbrev pub is_loaded_case : Record → Bool
-is_loaded_case (record_of.Case c) = not (is_at_rest c)
-is_loaded_case (record_of.Material _) = false
-is_loaded_case (record_of.Section _) = false
-is_loaded_case (record_of.Node _) = false
-is_loaded_case (record_of.Element _) = false
-is_loaded_case (record_of.Tee _) = false
-is_loaded_case (record_of.Restraint _) = false
-is_loaded_case (record_of.Force _) = false
-
 -- the lists with a record, or the number that refuses it
 abbrev pub judged : Record → Option ℕ → Lists → Result Lists ℕ
 judged r (Some number) m = Err number
-judged r None m = if is_loaded_case r then Err 17 else Ok (added m r)
+judged r None m = Ok (added m r)
 
 abbrev pub taken : Lists → Record → Result Lists ℕ
 taken m r = judged r (refusal m r) m

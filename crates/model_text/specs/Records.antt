@@ -1,5 +1,5 @@
 -- The records: what a line's words give, or the number that refuses them.
-use Rattle.std.specs.Prelude.{ℕ, ◌||◌, Bool, List, Option, Some, None, Result, Err, if◌then◌else◌, codes}
+use Rattle.std.specs.Prelude.{ℕ, Bool, List, Option, Some, None, Result, Err, if◌then◌else◌, codes}
 use Rattle.std.specs.Str.{bytes_eq}
 use Rattle.model_types.specs.declared.records.Record.{Record}
 use Rattle.model_types.specs.Lists.{Lists}
@@ -9,8 +9,7 @@ use Rattle.model_text.specs.Words.{word}
 
 -- a word whose record isn't read yet
 abbrev pub is_unbuilt : List ℕ → Bool
-is_unbuilt w =
-    bytes_eq w (codes "temp") || bytes_eq w (codes "pressure") || bytes_eq w (codes "move") || bytes_eq w (codes "check")
+is_unbuilt w = bytes_eq w (codes "check")
 
 -- what the words give in a form: 4 where no record has their first word
 abbrev pub record_under : Lists → Option Form → List (List ℕ) → Result Record ℕ

@@ -15,8 +15,8 @@ use Rattle.model_types.specs.declared.records.Record.{Record}
 use Rattle.model_types.specs.declared.records.Record.TheVariants as record_of
 use Rattle.model_types.specs.Lists.{Lists, names_in, record_number}
 use Rattle.model_types.specs.declared.ranges.Range.{Range}
-use Rattle.model_types.specs.declared.ranges.TheConstants.{ACCELERATION, BEND_RADIUS, COORDINATE, CORNER, DENSITY, DIAMETER, EXPANSION, EXTRA_WEIGHT, GAP, HANGER_LOAD, LOAD, MODULUS, POISSON_RATIO, PRESSURE, STIFFNESS, TEMPERATURE_CHANGE, WALL, WALL_ALLOWANCE}
-use Rattle.model_types.specs.Kinds.{Kind, material_kind, section_kind, node_kind, element_kind, tee_kind, restraint_kind, case_kind, force_kind}
+use Rattle.model_types.specs.declared.ranges.TheConstants.{ACCELERATION, BEND_RADIUS, COORDINATE, CORNER, DENSITY, DIAMETER, EXPANSION, EXTRA_WEIGHT, GAP, HANGER_LOAD, LOAD, MODULUS, MOVEMENT, POISSON_RATIO, PRESSURE, STIFFNESS, TEMPERATURE_CHANGE, WALL, WALL_ALLOWANCE}
+use Rattle.model_types.specs.Kinds.{Kind, material_kind, section_kind, node_kind, element_kind, tee_kind, restraint_kind, case_kind, temp_kind, pressure_kind, force_kind, move_kind}
 use Rattle.model_text.specs.declared.records.Form.{Form}
 use Rattle.model_text.specs.declared.records.Form.TheVariants as form
 use Rattle.model_text.specs.declared.fields.Direction.{Direction}
@@ -50,10 +50,15 @@ first_word form.Oneway = codes "oneway"
 first_word form.Gap = codes "gap"
 first_word form.Hanger = codes "hanger"
 first_word form.Case = codes "case"
+first_word form.Temp = codes "temp"
+first_word form.Pressure = codes "pressure"
 first_word form.Force = codes "force"
+first_word form.Move = codes "move"
 
 abbrev pub forms : List Form
-forms = form.Material ∷ form.Section ∷ form.Node ∷ form.Straight ∷ form.Bend ∷ form.Tee ∷ form.Anchor ∷ form.Linear ∷ form.Twist ∷ form.Oneway ∷ form.Gap ∷ form.Hanger ∷ form.Case ∷ form.Force ∷ []
+forms =
+    form.Material ∷ form.Section ∷ form.Node ∷ form.Straight ∷ form.Bend ∷ form.Tee ∷ form.Anchor ∷ form.Linear ∷ form.Twist ∷ form.Oneway ∷ form.Gap ∷ form.Hanger
+    ∷ form.Case ∷ form.Temp ∷ form.Pressure ∷ form.Force ∷ form.Move ∷ []
 
 -- the form among these with that first word
 abbrev pub form_among : List ℕ → List Form → Option Form
@@ -79,7 +84,10 @@ kind_made form.Oneway = restraint_kind
 kind_made form.Gap = restraint_kind
 kind_made form.Hanger = restraint_kind
 kind_made form.Case = case_kind
+kind_made form.Temp = temp_kind
+kind_made form.Pressure = pressure_kind
 kind_made form.Force = force_kind
+kind_made form.Move = move_kind
 
 -- the fields behind the first word
 abbrev pub row : Form → List Field
@@ -97,7 +105,10 @@ row form.Oneway = own_name ∷ name_in space_of.Node ∷ direction ∷ within GA
 row form.Gap = own_name ∷ name_in space_of.Node ∷ direction ∷ within GAP ∷ stiffness_or_default ∷ []
 row form.Hanger = own_name ∷ name_in space_of.Node ∷ within STIFFNESS ∷ within HANGER_LOAD ∷ []
 row form.Case = own_name ∷ within ACCELERATION ∷ within ACCELERATION ∷ within ACCELERATION ∷ flag ∷ within TEMPERATURE_CHANGE ∷ within PRESSURE ∷ []
+row form.Temp = name_in space_of.Case ∷ name_in space_of.Section ∷ within TEMPERATURE_CHANGE ∷ []
+row form.Pressure = name_in space_of.Case ∷ name_in space_of.Section ∷ within PRESSURE ∷ []
 row form.Force = name_in space_of.Case ∷ name_in space_of.Node ∷ within LOAD ∷ within LOAD ∷ within LOAD ∷ within LOAD ∷ within LOAD ∷ within LOAD ∷ []
+row form.Move = name_in space_of.Case ∷ name_in space_of.Restraint ∷ within MOVEMENT ∷ within MOVEMENT ∷ within MOVEMENT ∷ []
 
 -- what a field gives: a name, the number of the record named, a whole number, an angle, a stiffness, a flag, a kind of tee, a direction
 abbrev pub Value : Field → Type 0
@@ -148,8 +159,11 @@ made form.Oneway (name, (node, (d, (gap, (k, _))))) = record_of.Restraint (recor
 made form.Gap (name, (node, (d, (gap, (k, _))))) = record_of.Restraint (record { name = name; node = record { 0 = node }; kind = Gap d.x d.y d.z gap k })
 made form.Hanger (name, (node, (rate, (load, _)))) = record_of.Restraint (record { name = name; node = record { 0 = node }; kind = Hanger rate load })
 made form.Case (name, (gx, (gy, (gz, (hangers, (dt, (p, _))))))) = record_of.Case (record { name = name; gx = gx; gy = gy; gz = gz; hangers = hangers; dt = dt; p = p })
+made form.Temp (case, (section, (dt, _))) = record_of.Temp (record { case = record { 0 = case }; section = record { 0 = section }; dt = dt })
+made form.Pressure (case, (section, (p, _))) = record_of.Pressure (record { case = record { 0 = case }; section = record { 0 = section }; p = p })
 made form.Force (case, (node, (fx, (fy, (fz, (mx, (my, (mz, _)))))))) =
     record_of.Force (record { case = record { 0 = case }; node = record { 0 = node }; fx = fx; fy = fy; fz = fz; mx = mx; my = my; mz = mz })
+made form.Move (case, (anchor, (x, (y, (z, _))))) = record_of.Move (record { case = record { 0 = case }; anchor = record { 0 = anchor }; x = x; y = y; z = z })
 
 -- ---- reading
 
@@ -242,4 +256,7 @@ words_of m (record_of.Element r) = element_words m r.name r.from.0 r.to.0 r.sect
 words_of m (record_of.Tee r) = form_words m form.Tee (r.node.0, (r.branch.0, (r.header.0, (r.kind, tt))))
 words_of m (record_of.Restraint r) = restraint_words m r.name r.node.0 r.kind
 words_of m (record_of.Case r) = form_words m form.Case (r.name, (r.gx, (r.gy, (r.gz, (r.hangers, (r.dt, (r.p, tt)))))))
+words_of m (record_of.Temp r) = form_words m form.Temp (r.case.0, (r.section.0, (r.dt, tt)))
+words_of m (record_of.Pressure r) = form_words m form.Pressure (r.case.0, (r.section.0, (r.p, tt)))
 words_of m (record_of.Force r) = form_words m form.Force (r.case.0, (r.node.0, (r.fx, (r.fy, (r.fz, (r.mx, (r.my, (r.mz, tt))))))))
+words_of m (record_of.Move r) = form_words m form.Move (r.case.0, (r.anchor.0, (r.x, (r.y, (r.z, tt)))))

@@ -7,7 +7,5 @@ mod records;
 mod words;
 mod writer;
 
-pub use reader::{
-    TextFault, cases_are_at_rest, grammar_is_told, lines_are_determined, node_line, read,
-};
-pub use writer::echo;
+pub use reader::{TextFault, grammar_is_told, lines_are_determined, node_line, read};
+pub use writer::{canonical_reads_back, echo};

@@ -14,7 +14,7 @@ ghost use Rattle.text_words.specs.Fields.{lines};
 use crate::records::{Form, form_of, record_of_words};
 use crate::words::{Words, is_allowed};
 use angle_table::half;
-use model_types::{AddFault, Bounds, Case, Draft, Model, NodeId, Record, Shape, WholeFault};
+use model_types::{AddFault, Bounds, Draft, Model, NodeId, Record, Shape, WholeFault};
 use std::alloc::{AllocError, Global};
 use text_words::cut_line;
 use thiserror::Error;
@@ -83,11 +83,6 @@ pub fn grammar_is_told()
 pub fn lines_are_determined()
     ensures one { grammar.LinesAreDetermined }
     ensures told { grammar.LinesAreTold }
-{}
-
-/// What the cases of an accepted text are, since a case with a load of its own is refused: nothing but forces acts in them.
-pub fn cases_are_at_rest()
-    ensures { grammar.CasesAreAtRest }
 {}
 
 // Reads a text.
@@ -214,7 +209,10 @@ fn place(form: Form) -> u8
         Form::Anchor | Form::Linear | Form::Twist => 5,
         Form::Oneway | Form::Gap | Form::Hanger => 5,
         Form::Case => 6,
-        Form::Force => 7,
+        Form::Temp => 7,
+        Form::Pressure => 8,
+        Form::Force => 9,
+        Form::Move => 10,
     }
 }
 
@@ -268,19 +266,13 @@ fn take_record(draft: &mut Draft, line: &Words) -> Result<(), AddFault>
     }
 }
 
-// Adds a record, unless a rule or its load refuses it.
+// Adds a record, unless a rule refuses it.
 fn judge(draft: &mut Draft, found: Record) -> Result<(), AddFault>
     requires { InForm found }
     ensures ok { OnOk result (line_of.taken draft.old found ≡ Ok draft.new) }
     ensures refused { (number : ℕ) → result ≡ Err (AddFault.Refused number) → line_of.taken draft.old found ≡ Err number }
 {
-    if let Err(fault) = draft.add(found, sine_for(&found)) {
-        return Err(fault);
-    }
-    if is_loaded_case(&found) {
-        return Err(AddFault::Refused(17));
-    }
-    Ok(())
+    draft.add(found, sine_for(&found))
 }
 
 // For a bend the ends of the sine of half its angle; nothing looks at those of another record.
@@ -292,7 +284,8 @@ fn sine_for(found: &Record) -> Bounds
         Record::Element(element) => sine_of(element.shape),
         Record::Material(_) | Record::Section(_) | Record::Node(_) => NO_SINE,
         Record::Tee(_) | Record::Restraint(_) => NO_SINE,
-        Record::Case(_) | Record::Force(_) => NO_SINE,
+        Record::Case(_) | Record::Temp(_) | Record::Pressure(_) => NO_SINE,
+        Record::Force(_) | Record::Move(_) => NO_SINE,
     }
 }
 
@@ -312,22 +305,4 @@ fn sine_of(shape: Shape) -> Bounds
             }
         }
     }
-}
-
-// Whether the record is a case with a load of its own, which isn't read yet.
-fn is_loaded_case(found: &Record) -> bool
-    ensures { result ≡ line_of.is_loaded_case found.now }
-{
-    match found {
-        Record::Case(case) => !is_at_rest(case),
-        Record::Material(_) | Record::Section(_) | Record::Node(_) => false,
-        Record::Element(_) | Record::Tee(_) => false,
-        Record::Restraint(_) | Record::Force(_) => false,
-    }
-}
-
-fn is_at_rest(case: &Case) -> bool
-    ensures { result ≡ line_of.is_at_rest case.now }
-{
-    case.gx == 0 && case.gy == 0 && case.gz == 0 && !case.hangers && case.dt == 0 && case.p == 0
 }

@@ -11,12 +11,13 @@ use crate::fields::{
 use crate::words::Words;
 use model_types::ranges::{
     ACCELERATION, BEND_RADIUS, COORDINATE, CORNER, DENSITY, DIAMETER, EXPANSION, EXTRA_WEIGHT, GAP,
-    HANGER_LOAD, LOAD, MODULUS, POISSON_RATIO, PRESSURE, STIFFNESS, TEMPERATURE_CHANGE, WALL,
-    WALL_ALLOWANCE,
+    HANGER_LOAD, LOAD, MODULUS, MOVEMENT, POISSON_RATIO, PRESSURE, STIFFNESS, TEMPERATURE_CHANGE,
+    WALL, WALL_ALLOWANCE,
 };
 use model_types::{
-    Case, CaseId, Draft, Element, ElementId, Force, Material, MaterialId, Node, NodeId, Record,
-    Restraint, RestraintKind, Section, SectionId, Shape, Space, Tee,
+    Case, CaseId, Draft, Element, ElementId, Force, Material, MaterialId, Move, Node, NodeId,
+    Pressure, Record, Restraint, RestraintId, RestraintKind, Section, SectionId, Shape, Space, Tee,
+    Temp,
 };
 
 /// The forms of records, each with a first word of its own.
@@ -35,7 +36,10 @@ pub(crate) enum Form {
     Gap,
     Hanger,
     Case,
+    Temp,
+    Pressure,
     Force,
+    Move,
 }
 
 /// The form with that first word.
@@ -82,8 +86,17 @@ pub(crate) fn form_of(word: &[u8]) -> Option<Form>
     if word == b"case".as_slice() {
         return Some(Form::Case);
     }
+    if word == b"temp".as_slice() {
+        return Some(Form::Temp);
+    }
+    if word == b"pressure".as_slice() {
+        return Some(Form::Pressure);
+    }
     if word == b"force".as_slice() {
         return Some(Form::Force);
+    }
+    if word == b"move".as_slice() {
+        return Some(Form::Move);
     }
     None
 }
@@ -119,7 +132,10 @@ fn record_in(draft: &Draft, form: Form, line: &Words) -> Result<Record, u8>
         Form::Gap => gap(draft, line),
         Form::Hanger => hanger(draft, line),
         Form::Case => case(line),
+        Form::Temp => temp(draft, line),
+        Form::Pressure => pressure(draft, line),
         Form::Force => force(draft, line),
+        Form::Move => movement(draft, line),
     }
 }
 
@@ -127,10 +143,7 @@ fn record_in(draft: &Draft, form: Form, line: &Words) -> Result<Record, u8>
 fn is_unbuilt(word: &[u8]) -> bool
     ensures { result ≡ record_of.is_unbuilt word.now }
 {
-    word == b"temp".as_slice()
-        || word == b"pressure".as_slice()
-        || word == b"move".as_slice()
-        || word == b"check".as_slice()
+    word == b"check".as_slice()
 }
 
 // The number of the record that a word names, or 4294967295, which is no record's: 7 where the word isn't a name.
@@ -396,6 +409,30 @@ fn case(line: &Words) -> Result<Record, u8>
     }))
 }
 
+// temp CASE SECTION DT
+fn temp(draft: &Draft, line: &Words) -> Result<Record, u8>
+    ensures value { result ≡ row_of.record_in draft.now Form.Temp line.now }
+    ensures form { IfOk result InForm }
+{
+    refuse_if(line.count() != 4, 5)?;
+    let case = CaseId(number_named(draft, Space::Case, line.word(1))?);
+    let section = SectionId(number_named(draft, Space::Section, line.word(2))?);
+    let dt = number_in(line.word(3), TEMPERATURE_CHANGE)?;
+    Ok(Record::Temp(Temp { case, section, dt }))
+}
+
+// pressure CASE SECTION P
+fn pressure(draft: &Draft, line: &Words) -> Result<Record, u8>
+    ensures value { result ≡ row_of.record_in draft.now Form.Pressure line.now }
+    ensures form { IfOk result InForm }
+{
+    refuse_if(line.count() != 4, 5)?;
+    let case = CaseId(number_named(draft, Space::Case, line.word(1))?);
+    let section = SectionId(number_named(draft, Space::Section, line.word(2))?);
+    let p = number_in(line.word(3), PRESSURE)?;
+    Ok(Record::Pressure(Pressure { case, section, p }))
+}
+
 // force CASE NODE FX FY FZ MX MY MZ
 fn force(draft: &Draft, line: &Words) -> Result<Record, u8>
     ensures value { result ≡ row_of.record_in draft.now Form.Force line.now }
@@ -419,5 +456,25 @@ fn force(draft: &Draft, line: &Words) -> Result<Record, u8>
         mx,
         my,
         mz,
+    }))
+}
+
+// move CASE ANCHOR X Y Z
+fn movement(draft: &Draft, line: &Words) -> Result<Record, u8>
+    ensures value { result ≡ row_of.record_in draft.now Form.Move line.now }
+    ensures form { IfOk result InForm }
+{
+    refuse_if(line.count() != 6, 5)?;
+    let case = CaseId(number_named(draft, Space::Case, line.word(1))?);
+    let anchor = RestraintId(number_named(draft, Space::Restraint, line.word(2))?);
+    let x = number_in(line.word(3), MOVEMENT)?;
+    let y = number_in(line.word(4), MOVEMENT)?;
+    let z = number_in(line.word(5), MOVEMENT)?;
+    Ok(Record::Move(Move {
+        case,
+        anchor,
+        x,
+        y,
+        z,
     }))
 }

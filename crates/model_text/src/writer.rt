@@ -5,17 +5,17 @@ ghost use Rattle.model_types.specs.declared.ids.Space.TheVariants as space_of;
 ghost use Rattle.model_types.specs.declared.records.Record.{Record};
 ghost use Rattle.model_types.specs.declared.records.Record.TheVariants as record_of;
 ghost use Rattle.model_text.specs.Canonical as text_of;
+ghost use Rattle.model_text.specs.RoundTrip.{CanonicalReadsBack};
 ghost use Rattle.model_text.specs.Rows as row_of;
 ghost use Rattle.model_text.specs.Grammar.{parsed};
-ghost use Rattle.model_text.specs.RoundTrip.{AreCasesAtRest};
 ghost use Rattle.text_words.specs.Fields.{line};
 
 use crate::reader::LONGEST_TEXT;
 use itoa::Buffer;
 use model_types::{
-    Case, CaseId, Element, ElementId, Force, Material, MaterialId, Model, NoMemory, Node, NodeId,
-    Restraint, RestraintKind, Section, SectionId, Shape, Tee, TeeKind, records_follow,
-    tees_are_judged,
+    Case, CaseId, Element, ElementId, Force, Material, MaterialId, Model, Move, NoMemory, Node,
+    NodeId, Pressure, Restraint, RestraintId, RestraintKind, Section, SectionId, Shape, Tee,
+    TeeKind, Temp, records_follow, tees_are_judged,
 };
 use std::alloc::Global;
 use text_words::push_line;
@@ -23,11 +23,10 @@ use text_words::push_line;
 /// The canonical text: the header, then the records by kind, each kind in text order, with single spaces and no comment. A default
 /// stays written as `-`.
 ///
-/// [`read`](crate::read) makes the same model of it, if it has at most 4,194,304 bytes and all numbers of each case are 0: other cases
-/// aren't read yet.
+/// [`read`](crate::read) makes the same model of it, if it has at most 4,194,304 bytes.
 pub fn echo(alloc: Global, model: &Model) -> Result<Vec<u8>, NoMemory>
     ensures canonical { IfOk result (λ text. text.items ≡ text_of.canonical model.now) }
-    ensures reads_back { IfOk result (λ text. AreCasesAtRest model.now → length text.items ≤ LONGEST_TEXT → parsed text.items ≡ Ok model.now) }
+    ensures reads_back { IfOk result (λ text. length text.items ≤ LONGEST_TEXT → parsed text.items ≡ Ok model.now) }
 {
     // Each list of a model says that the model keeps the rules, and the laws that its records can be read in order and that no
     // tee is broken.
@@ -35,6 +34,14 @@ pub fn echo(alloc: Global, model: &Model) -> Result<Vec<u8>, NoMemory>
     records_follow();
     tees_are_judged();
     all_lines(alloc, model)
+}
+
+/// The law of the canonical text: each model's, if it has at most 4,194,304 bytes, is read as the model.
+pub fn canonical_reads_back()
+    ensures { CanonicalReadsBack }
+{
+    records_follow();
+    tees_are_judged();
 }
 
 // The header and the records, line by line.
@@ -51,7 +58,10 @@ fn all_lines(alloc: Global, model: &Model) -> Result<Vec<u8>, NoMemory>
     put_all(&mut out, model, model.tees())?;
     put_all(&mut out, model, model.restraints())?;
     put_all(&mut out, model, model.cases())?;
+    put_all(&mut out, model, model.temps())?;
+    put_all(&mut out, model, model.pressures())?;
     put_all(&mut out, model, model.forces())?;
+    put_all(&mut out, model, model.moves())?;
     Ok(out)
 }
 
@@ -324,6 +334,34 @@ fn hangers(case: &Case) -> &[u8]
     if case.hangers { b"1" } else { b"0" }
 }
 
+impl Lined for Temp {
+    ghost as_record = { record_of.Temp };
+
+    fn put(&self, out: &mut Vec<u8>, model: &Model) -> Result<(), NoMemory> {
+        let case = case_name(model, self.case);
+        let section = section_name(model, self.section);
+        let mut dt = Buffer::new();
+        push_line(
+            out,
+            &[b"temp", case, section, dt.format(self.dt).as_bytes()],
+        )
+    }
+}
+
+impl Lined for Pressure {
+    ghost as_record = { record_of.Pressure };
+
+    fn put(&self, out: &mut Vec<u8>, model: &Model) -> Result<(), NoMemory> {
+        let case = case_name(model, self.case);
+        let section = section_name(model, self.section);
+        let mut p = Buffer::new();
+        push_line(
+            out,
+            &[b"pressure", case, section, p.format(self.p).as_bytes()],
+        )
+    }
+}
+
 impl Lined for Force {
     ghost as_record = { record_of.Force };
 
@@ -343,6 +381,26 @@ impl Lined for Force {
                 mx.format(self.mx).as_bytes(),
                 my.format(self.my).as_bytes(),
                 mz.format(self.mz).as_bytes(),
+            ],
+        )
+    }
+}
+
+impl Lined for Move {
+    ghost as_record = { record_of.Move };
+
+    fn put(&self, out: &mut Vec<u8>, model: &Model) -> Result<(), NoMemory> {
+        let (mut x, mut y) = (Buffer::new(), Buffer::new());
+        let mut z = Buffer::new();
+        push_line(
+            out,
+            &[
+                b"move",
+                case_name(model, self.case),
+                restraint_name(model, self.anchor),
+                x.format(self.x).as_bytes(),
+                y.format(self.y).as_bytes(),
+                z.format(self.z).as_bytes(),
             ],
         )
     }
@@ -383,6 +441,16 @@ fn element_name(model: &Model, element: ElementId) -> &[u8]
     ensures { result.now ≡ row_of.name_of model.now space_of.Element element.0 }
 {
     match model.elements().get(element.0 as usize) {
+        Some(r) => r.name.bytes(),
+        None => b"",
+    }
+}
+
+// The name of a restraint, or nothing where there is none of that number.
+fn restraint_name(model: &Model, restraint: RestraintId) -> &[u8]
+    ensures { result.now ≡ row_of.name_of model.now space_of.Restraint restraint.0 }
+{
+    match model.restraints().get(restraint.0 as usize) {
         Some(r) => r.name.bytes(),
         None => b"",
     }

@@ -9,9 +9,10 @@ use Rattle.std.specs.Option.{option_map}
 use Rattle.model_types.specs.declared.ranges.TheConstants.{MOST_STOPS}
 use Rattle.model_types.specs.declared.records.Section.{Section}
 use Rattle.model_types.specs.declared.records.Node.{Node}
+use Rattle.model_types.specs.declared.records.Restraint.{Restraint}
 use Rattle.model_types.specs.declared.records.Record.{Record}
 use Rattle.model_types.specs.declared.records.Record.TheVariants as record_of
-use Rattle.model_types.specs.Kinds.{Kind, material_kind, section_kind, node_kind, element_kind, tee_kind, restraint_kind, case_kind, force_kind, place, Of, list, as_record, kind_of, value_of, count, most, is_keyed, key, keys, Ref, refs, AreThere, has_stop, stop_count, cut, before, Extends}
+use Rattle.model_types.specs.Kinds.{Kind, material_kind, section_kind, node_kind, element_kind, tee_kind, restraint_kind, case_kind, temp_kind, pressure_kind, force_kind, move_kind, place, Of, list, as_record, kind_of, value_of, count, most, is_keyed, key, keys, Ref, refs, AreThere, has_stop, stop_count, cut, before, Extends}
 use Rattle.model_types.specs.Lists.{Lists, no_records, added}
 use Rattle.model_types.specs.Rules.{KeepsOwn, Keeps, KeepsRules, MayBeNext, IsModel}
 use Rattle.model_types.specs.Ranges.{NodeInForm}
@@ -39,6 +40,12 @@ module _ (m n : Lists) (more : Extends m n) where
       let same = more section_kind i (get_or m.sections i s) here in
       cc
 
+  restraint-Extends : (i : ℕ) (x : Restraint) → i < length m.restraints → slice_get n.restraints i ≡ Some x → slice_get m.restraints i ≡ Some x
+  restraint-Extends i x inside there =
+      let here = slice_get-get_or m.restraints i x inside in
+      let same = more restraint_kind i (get_or m.restraints i x) here in
+      cc
+
   own-Extends : (r : Record) → AreThere m (refs r) → KeepsOwn m r → KeepsOwn n r
   own-Extends (record_of.Material r) known own = own
   own-Extends (record_of.Section r) known own = own
@@ -50,7 +57,10 @@ module _ (m n : Lists) (more : Extends m n) where
   own-Extends (record_of.Tee r) known own = own
   own-Extends (record_of.Restraint r) known own = own
   own-Extends (record_of.Case r) known own = own
+  own-Extends (record_of.Temp r) known own = own
+  own-Extends (record_of.Pressure r) known own = own
   own-Extends (record_of.Force r) known own = own
+  own-Extends (record_of.Move r) known own = λ x there. own x (restraint-Extends r.anchor.0 x known.1.0 there)
 
   -- a record keeps its rule among more records
   pub Keeps-Extends : (r : Record) → Keeps m r → Keeps n r
@@ -82,12 +92,12 @@ no_records_keep = record {
   distinct = λ k keyed. subst (AllPairs (λ a b. a ≢ b)) (sym ((of_kind k).keyed no_records ∙ ap (map (λ x. key (as_record k x))) (of_kind k).none)) (λ i j d before inside. absurd (omega arith));
   limits = λ k. omega (arith, (of_kind k).counted no_records, ap length (of_kind k).none);
   stops = omega arith;
-  other_kinds = refl;
+  no_check = refl;
 }
 
 -- rules that are kept, a node, and tees that are made, make a model
 pub IsModel-from : (m : Lists) → KeepsRules m → m.nodes ≢ [] → All (IsTee m) m.tees → IsModel m
-IsModel-from m rules some tees = record { rules = rules; some_node = not_empty m.nodes some; tees_made = tees; kept = record { materials = all_keep m rules material_kind; sections = all_keep m rules section_kind; nodes = all_keep m rules node_kind; elements = all_keep m rules element_kind; tees = all_keep m rules tee_kind; restraints = all_keep m rules restraint_kind; cases = all_keep m rules case_kind; forces = all_keep m rules force_kind }; few = record { materials = rules.limits material_kind; sections = rules.limits section_kind; nodes = rules.limits node_kind; elements = rules.limits element_kind; tees = rules.limits tee_kind; restraints = rules.limits restraint_kind; cases = rules.limits case_kind; forces = rules.limits force_kind } }
+IsModel-from m rules some tees = record { rules = rules; some_node = not_empty m.nodes some; tees_made = tees; kept = record { materials = all_keep m rules material_kind; sections = all_keep m rules section_kind; nodes = all_keep m rules node_kind; elements = all_keep m rules element_kind; tees = all_keep m rules tee_kind; restraints = all_keep m rules restraint_kind; cases = all_keep m rules case_kind; temps = all_keep m rules temp_kind; pressures = all_keep m rules pressure_kind; forces = all_keep m rules force_kind; moves = all_keep m rules move_kind }; few = record { materials = rules.limits material_kind; sections = rules.limits section_kind; nodes = rules.limits node_kind; elements = rules.limits element_kind; tees = rules.limits tee_kind; restraints = rules.limits restraint_kind; cases = rules.limits case_kind; temps = rules.limits temp_kind; pressures = rules.limits pressure_kind; forces = rules.limits force_kind; moves = rules.limits move_kind } }
 
 pub nodes_in_form : (m : Lists) → KeepsRules m → All NodeInForm m.nodes
 nodes_in_form m rules = λ i d inside. (all_keep m rules node_kind i d inside).form
@@ -153,7 +163,7 @@ module _ (m : Lists) (r : Record) where
       limits = λ j. subst (λ n. n ≤ most j) (sym ((of_kind j).counted (added m r)))
           (added_elim m r (λ j ys. length ys ≤ most j) (omega (arith, length-append of_its_kind (value_of r ∷ []), (of_kind (kind_of r)).counted m, next.room)) (λ j. omega (arith, (of_kind j).counted m, rules.limits j)) j);
       stops = stops_fit (has_stop r) refl;
-      other_kinds = (of_record r).others_are m ∙ rules.other_kinds;
+      no_check = (of_record r).checks_are m ∙ rules.no_check;
     }
 
   -- and the other way: the last record might be the next of those before it

@@ -8,8 +8,8 @@ use Rattle.std.specs.List.{count_by}
 use Rattle.model_types.specs.declared.records.Restraint.{Restraint}
 use Rattle.model_types.specs.declared.records.Record.{Record}
 use Rattle.model_types.specs.declared.records.Record.TheVariants as record_of
-use Rattle.model_types.specs.Kinds.{Kind, material_kind, section_kind, node_kind, element_kind, tee_kind, restraint_kind, case_kind, force_kind, place, Of, list, as_record, kind_of, value_of, count, key, keys, refs, AreThere, is_stop, has_stop, stop_count, cut, before}
-use Rattle.model_types.specs.Lists.{Lists, no_records, added, other_records}
+use Rattle.model_types.specs.Kinds.{Kind, material_kind, section_kind, node_kind, element_kind, tee_kind, restraint_kind, case_kind, temp_kind, pressure_kind, force_kind, move_kind, place, Of, list, as_record, kind_of, value_of, count, key, keys, refs, AreThere, is_stop, has_stop, stop_count, cut, before}
+use Rattle.model_types.specs.Lists.{Lists, no_records, added}
 use Rattle.model_types.specs.Rules.{KeepsOwn}
 
 -- what a kind's definitions say of each other
@@ -28,7 +28,10 @@ of_kind element_kind = record { counted = λ m. refl; keyed = λ m. refl; cut_is
 of_kind tee_kind = record { counted = λ m. refl; keyed = λ m. refl; cut_is = λ m j i. refl; kind_is = λ x. refl; none = refl }
 of_kind restraint_kind = record { counted = λ m. refl; keyed = λ m. refl; cut_is = λ m j i. refl; kind_is = λ x. refl; none = refl }
 of_kind case_kind = record { counted = λ m. refl; keyed = λ m. refl; cut_is = λ m j i. refl; kind_is = λ x. refl; none = refl }
+of_kind temp_kind = record { counted = λ m. refl; keyed = λ m. refl; cut_is = λ m j i. refl; kind_is = λ x. refl; none = refl }
+of_kind pressure_kind = record { counted = λ m. refl; keyed = λ m. refl; cut_is = λ m j i. refl; kind_is = λ x. refl; none = refl }
 of_kind force_kind = record { counted = λ m. refl; keyed = λ m. refl; cut_is = λ m j i. refl; kind_is = λ x. refl; none = refl }
+of_kind move_kind = record { counted = λ m. refl; keyed = λ m. refl; cut_is = λ m j i. refl; kind_is = λ x. refl; none = refl }
 
 -- how many stops a record is
 abbrev pub stop_count_of : Record → ℕ
@@ -50,21 +53,24 @@ stop_count-before xs i r at stop =
 -- and what they say of a record: it is added at the end of its kind, and what its rule speaks of stands before it
 pub record OfRecord (r : Record) : Type 0 where
   pub added_is : (m : Lists) → list (added m r) (kind_of r) ≡ list m (kind_of r) ++ value_of r ∷ []
-  pub others_are : (m : Lists) → other_records (added m r) ≡ other_records m
+  pub checks_are : (m : Lists) → (added m r).checks ≡ m.checks
   pub stops_are : (m : Lists) → stop_count (added m r).restraints ≡ stop_count m.restraints + stop_count_of r
   pub record_is : as_record (kind_of r) (value_of r) ≡ r
   pub known : (m : Lists) → AreThere m (refs r) → AreThere (before (added m r) (kind_of r) (length (list m (kind_of r)))) (refs r)
   pub own : (m : Lists) → KeepsOwn m r → KeepsOwn (before (added m r) (kind_of r) (length (list m (kind_of r)))) r
 
 pub of_record : (r : Record) → OfRecord r
-of_record (record_of.Material r) = record { added_is = λ m. refl; others_are = λ m. refl; stops_are = λ m. omega arith; record_is = refl; known = λ m k. k; own = λ m k. k }
-of_record (record_of.Section r) = record { added_is = λ m. refl; others_are = λ m. refl; stops_are = λ m. omega arith; record_is = refl; known = λ m k. k; own = λ m k. k }
-of_record (record_of.Node r) = record { added_is = λ m. refl; others_are = λ m. refl; stops_are = λ m. omega arith; record_is = refl; known = λ m k. k; own = λ m k. k }
-of_record (record_of.Element r) = record { added_is = λ m. refl; others_are = λ m. refl; stops_are = λ m. omega arith; record_is = refl; known = λ m k. k; own = λ m k. record { span = k.span; shape = k.shape } }
-of_record (record_of.Tee r) = record { added_is = λ m. refl; others_are = λ m. refl; stops_are = λ m. omega arith; record_is = refl; known = λ m k. k; own = λ m k. k }
-of_record (record_of.Restraint r) = record { added_is = λ m. refl; others_are = λ m. refl; stops_are = λ m. stop_count-push m.restraints r; record_is = refl; known = λ m k. k; own = λ m k. k }
-of_record (record_of.Case r) = record { added_is = λ m. refl; others_are = λ m. refl; stops_are = λ m. omega arith; record_is = refl; known = λ m k. k; own = λ m k. k }
-of_record (record_of.Force r) = record { added_is = λ m. refl; others_are = λ m. refl; stops_are = λ m. omega arith; record_is = refl; known = λ m k. k; own = λ m k. k }
+of_record (record_of.Material r) = record { added_is = λ m. refl; checks_are = λ m. refl; stops_are = λ m. omega arith; record_is = refl; known = λ m k. k; own = λ m k. k }
+of_record (record_of.Section r) = record { added_is = λ m. refl; checks_are = λ m. refl; stops_are = λ m. omega arith; record_is = refl; known = λ m k. k; own = λ m k. k }
+of_record (record_of.Node r) = record { added_is = λ m. refl; checks_are = λ m. refl; stops_are = λ m. omega arith; record_is = refl; known = λ m k. k; own = λ m k. k }
+of_record (record_of.Element r) = record { added_is = λ m. refl; checks_are = λ m. refl; stops_are = λ m. omega arith; record_is = refl; known = λ m k. k; own = λ m k. record { span = k.span; shape = k.shape } }
+of_record (record_of.Tee r) = record { added_is = λ m. refl; checks_are = λ m. refl; stops_are = λ m. omega arith; record_is = refl; known = λ m k. k; own = λ m k. k }
+of_record (record_of.Restraint r) = record { added_is = λ m. refl; checks_are = λ m. refl; stops_are = λ m. stop_count-push m.restraints r; record_is = refl; known = λ m k. k; own = λ m k. k }
+of_record (record_of.Case r) = record { added_is = λ m. refl; checks_are = λ m. refl; stops_are = λ m. omega arith; record_is = refl; known = λ m k. k; own = λ m k. k }
+of_record (record_of.Temp r) = record { added_is = λ m. refl; checks_are = λ m. refl; stops_are = λ m. omega arith; record_is = refl; known = λ m k. k; own = λ m k. k }
+of_record (record_of.Pressure r) = record { added_is = λ m. refl; checks_are = λ m. refl; stops_are = λ m. omega arith; record_is = refl; known = λ m k. k; own = λ m k. k }
+of_record (record_of.Force r) = record { added_is = λ m. refl; checks_are = λ m. refl; stops_are = λ m. omega arith; record_is = refl; known = λ m k. k; own = λ m k. k }
+of_record (record_of.Move r) = record { added_is = λ m. refl; checks_are = λ m. refl; stops_are = λ m. omega arith; record_is = refl; known = λ m k. k; own = λ m k. k }
 
 -- what holds of the list with the record, and of the others as they were, holds of all
 pub added_elim : (m : Lists) (r : Record) (P : (j : Kind) → List (Of j) → Type 0) → P (kind_of r) (list m (kind_of r) ++ value_of r ∷ []) → ((j : Kind) → P j (list m j)) → (j : Kind) → P j (list (added m r) j)
@@ -82,8 +88,14 @@ added_elim m (record_of.Restraint r) P new old restraint_kind = new
 added_elim m (record_of.Restraint r) P new old j = old j
 added_elim m (record_of.Case r) P new old case_kind = new
 added_elim m (record_of.Case r) P new old j = old j
+added_elim m (record_of.Temp r) P new old temp_kind = new
+added_elim m (record_of.Temp r) P new old j = old j
+added_elim m (record_of.Pressure r) P new old pressure_kind = new
+added_elim m (record_of.Pressure r) P new old j = old j
 added_elim m (record_of.Force r) P new old force_kind = new
 added_elim m (record_of.Force r) P new old j = old j
+added_elim m (record_of.Move r) P new old move_kind = new
+added_elim m (record_of.Move r) P new old j = old j
 
 module _ {X : Type 0} where
   -- what a list has below its length it has with more

@@ -1,7 +1,7 @@
 -- The test of a tee decides whether the elements at its node make it.
-use Rattle.std.proofs.Common.{◌≡◌, ℕ, suc, ◌+◌, ◌<◌, ◌≤◌, ◌==◌, Bool, true, false, true≢false, not, nat_lt, ◌&&◌, List, [], ◌∷◌, ◌++◌, filter, map, nat_eq, is_some, take, drop, get_or, length, length-take-le, position, slice_get, Option, Some, None, All, add-one, cond, refl, sym, ap, subst, ◌∙◌, arith}
+use Rattle.std.proofs.Common.{◌≡◌, ℕ, suc, ◌+◌, ◌<◌, ◌≤◌, ◌==◌, Bool, true, false, true≢false, not, ◌&&◌, List, [], ◌∷◌, ◌++◌, filter, map, nat_eq, is_some, take, drop, get_or, length, length-take-le, position, slice_get, Option, Some, None, All, add-one, refl, sym, ap, ◌∙◌, arith}
 use Rattle.std.proofs.Math.Seq.{drop-cons}
-use Rattle.std.proofs.lemmas.Bool.{and_parts, and_from, cond-true, cond-false, eqb-true, eq-eqb, false_from_ne_true, not-true, not-false, not_from_true, not_from_false}
+use Rattle.std.proofs.lemmas.Bool.{and_parts, and_from, cond-true, cond-false, eqb-true, eq-eqb, false_from_ne_true, not-true, not-false, not_from_true}
 use Rattle.std.proofs.lemmas.Bool.Decides.{nat_tests}
 use Rattle.std.proofs.lemmas.Grind.{common_steps}
 use Rattle.std.proofs.lemmas.List.{take-append-drop, get_or-take, length-map}
@@ -97,6 +97,25 @@ same_key n x = by (x == n) refl
 
 pub tee_found : (tees : List Tee) (node : ℕ) → is_some (position (λ t. t.node.0 == node) tees) ≡ is_some (position (pointwise nat_eq (node ∷ [])) (map (λ t. t.node.0 ∷ []) tees))
 tee_found tees node = found_mapped (λ t. t.node.0 == node) (pointwise nat_eq (node ∷ [])) (λ t. t.node.0 ∷ []) (λ t. same_key node t.node.0) tees
+
+-- a pair of numbers is the key of a record
+same_pair : (a b x y : ℕ) → pointwise nat_eq (a ∷ b ∷ []) (x ∷ y ∷ []) ≡ (x == a && y == b)
+same_pair a b x y = by (x == a && y == b) refl
+  where
+    by : (t : Bool) → (x == a && y == b) ≡ t → pointwise nat_eq (a ∷ b ∷ []) (x ∷ y ∷ []) ≡ (x == a && y == b)
+    by true is =
+        let parts = and_parts (x == a) (y == b) is in
+        (bytes_eq-Decides (a ∷ b ∷ []) (x ∷ y ∷ [])).1 (ap (λ n. n ∷ b ∷ []) (sym (eqb-true x a parts.0)) ∙ ap (λ n. x ∷ n ∷ []) (sym (eqb-true y b parts.1))) ∙ sym is
+    by false is =
+        false_from_ne_true (pointwise nat_eq (a ∷ b ∷ []) (x ∷ y ∷ [])) (λ test.
+        let lists : a ∷ b ∷ [] ≡ x ∷ y ∷ [] = (bytes_eq-Decides (a ∷ b ∷ []) (x ∷ y ∷ [])).0 test in
+        let first : x ≡ a = cc in
+        let second : y ≡ b = cc in
+        true≢false (sym (and_from (x == a) (y == b) (eq-eqb x a first) (eq-eqb y b second)) ∙ is)) ∙ sym is
+
+pub pair_found : {X : Type 0} (first second : X → ℕ) (xs : List X) (a b : ℕ)
+    → is_some (position (λ x. first x == a && second x == b) xs) ≡ is_some (position (pointwise nat_eq (a ∷ b ∷ [])) (map (λ x. first x ∷ second x ∷ []) xs))
+pair_found first second xs a b = found_mapped (λ x. first x == a && second x == b) (pointwise nat_eq (a ∷ b ∷ [])) (λ x. first x ∷ second x ∷ []) (λ x. same_pair a b (first x) (second x)) xs
 
 -- ---- lines
 

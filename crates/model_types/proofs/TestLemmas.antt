@@ -1,5 +1,5 @@
 -- No number refuses a record exactly where it may be the next.
-use Rattle.std.proofs.Common.{◌≡◌, ℕ, ◌*◌, ◌<◌, ◌==◌, Bool, true, false, true≢false, ◌||◌, ◌&&◌, nat_lt, nat_le, int_le, int_lt, int_eq, ℤ, pos, ◌*ℤ◌, ◌<ℤ◌, ◌≤ℤ◌, Result, Ok, Err, IsTrue, List, [], ◌∷◌, ◌++◌, Option, Some, None, is_some, position, slice_get, Contains, nat_eq, ◌↔◌, if◌then◌else◌, refl, sym, ap, ◌∙◌, arith}
+use Rattle.std.proofs.Common.{◌≡◌, ℕ, ◌*◌, ◌<◌, ◌==◌, Bool, true, false, true≢false, not, ◌||◌, ◌&&◌, nat_lt, nat_le, int_le, int_lt, int_eq, ℤ, pos, ◌*ℤ◌, ◌<ℤ◌, ◌≤ℤ◌, Result, Ok, Err, IsTrue, List, [], ◌∷◌, ◌++◌, Option, Some, None, is_some, position, slice_get, Contains, nat_eq, ◌↔◌, if◌then◌else◌, refl, sym, ap, ◌∙◌, arith}
 use Rattle.std.proofs.lemmas.Bool.{and_parts, and_from, false_from_ne_true, le-ltb, lt-leb, leb-false, ltb-false}
 use Rattle.std.proofs.lemmas.Bool.Decides.{nat_tests, Decides-int_eq}
 use Rattle.std.proofs.lemmas.Int.{ints}
@@ -10,6 +10,7 @@ use Rattle.flex_interval.specs.Ends.{Ends}
 use Rattle.flex_interval.specs.declared.fault.IvFault.{IvFault}
 use Rattle.angle_table.specs.HalfAngle.{sine_of}
 use Rattle.model_types.specs.declared.records.Section.{Section}
+use Rattle.model_types.specs.declared.records.Restraint.{Restraint}
 use Rattle.model_types.specs.declared.records.Shape.{Shape}
 use Rattle.model_types.specs.declared.records.Shape.TheVariants.{Straight, Bend}
 use Rattle.model_types.specs.declared.spans.Difference.{Difference}
@@ -18,10 +19,10 @@ use Rattle.model_types.specs.declared.records.Node.{Node}
 use Rattle.model_types.specs.declared.records.Element.{Element}
 use Rattle.model_types.specs.declared.records.Record.{Record}
 use Rattle.model_types.specs.declared.records.Record.TheVariants as record_of
-use Rattle.model_types.specs.Kinds.{kind_of, count, most, is_keyed, key, keys, Ref, refs, AreThere, has_stop, stop_count}
+use Rattle.model_types.specs.Kinds.{kind_of, count, most, is_keyed, key, keys, Ref, refs, AreThere, is_anchor, has_stop, stop_count}
 use Rattle.model_types.specs.Lists.{Lists}
 use Rattle.model_types.specs.Ranges.{InForm}
-use Rattle.model_types.specs.Refusals.{Test, test, first_refusal, AllFail, lacks, has_no_length, is_too_long, is_far, misfits_sine, is_bad_shape, is_bad_between, has_bad_shape, is_too_many, square_between, square_length, own_tests, tests, refusal}
+use Rattle.model_types.specs.Refusals.{Test, test, first_refusal, AllFail, lacks, has_no_length, is_too_long, is_far, misfits_sine, is_other_restraint, is_bad_shape, is_bad_between, has_bad_shape, is_too_many, square_between, square_length, own_tests, tests, refusal}
 use Rattle.model_types.specs.Rules.{KeepsOwn, MayBeNext, IsSpan, IsShapeSpan, square_distance}
 use Rattle.model_types.proofs.NameLists.{position-Contains}
 use Rattle.model_types.proofs.GrowthLemmas.{absent_key}
@@ -162,6 +163,22 @@ shape_test nodes sections e fits = by (slice_get nodes e.from.0) (slice_get node
     by (Some a) None s at_from at_to at_section = refl
     by None b s at_from at_to at_section = refl
 
+-- ---- the test of an anchor
+
+not_fails : (b : Bool) → not b ≡ false → b ≡ true
+not_fails true e = refl
+not_fails false e = absurd (true≢false e)
+
+anchor_from_test : (restraints : List Restraint) (n : ℕ) (x : Restraint) → slice_get restraints n ≡ Some x → is_other_restraint restraints n ≡ false → IsTrue (is_anchor x.kind)
+anchor_from_test restraints n x there fail = not_fails (is_anchor x.kind) (sym (ap (λ o. option_map_or (λ (y : Restraint). not (is_anchor y.kind)) o false) there) ∙ fail)
+
+anchor_test : (restraints : List Restraint) (n : ℕ) → ((x : Restraint) → slice_get restraints n ≡ Some x → IsTrue (is_anchor x.kind)) → is_other_restraint restraints n ≡ false
+anchor_test restraints n anchors = by (slice_get restraints n) refl
+  where
+    by : (o : Option Restraint) → slice_get restraints n ≡ o → option_map_or (λ (y : Restraint). not (is_anchor y.kind)) o false ≡ false
+    by (Some x) there = ap not (anchors x there)
+    by None there = refl
+
 -- the tests of a kind decide its own rule
 own-fail : (m : Lists) (r : Record) → AllFail (own_tests m r) ↔ KeepsOwn m r
 own-fail m (record_of.Material r) = ((λ fail. tt), (λ own. tt))
@@ -188,7 +205,10 @@ own-fail m (record_of.Element r) = (
 own-fail m (record_of.Tee r) = ((λ fail. tt), (λ own. tt))
 own-fail m (record_of.Restraint r) = ((λ fail. tt), (λ own. tt))
 own-fail m (record_of.Case r) = ((λ fail. tt), (λ own. tt))
+own-fail m (record_of.Temp r) = ((λ fail. tt), (λ own. tt))
+own-fail m (record_of.Pressure r) = ((λ fail. tt), (λ own. tt))
 own-fail m (record_of.Force r) = ((λ fail. tt), (λ own. tt))
+own-fail m (record_of.Move r) = ((λ fail x there. anchor_from_test m.restraints r.anchor.0 x there fail.0), (λ own. (anchor_test m.restraints r.anchor.0 own, tt)))
 
 known-fail : (m : Lists) (rs : List Ref) → (lacks m rs ≡ false) ↔ AreThere m rs
 known-fail m [] = ((λ fail. tt), (λ known. refl))

@@ -1,12 +1,12 @@
 -- Which answers are those of a model's cases.
-use Rattle.std.specs.Prelude.{◌≡◌, ℕ, ◌*◌, ◌^◌, ◌<◌, List, [], length, All, ℤ, unsigned_abs, ⊤}
+use Rattle.std.specs.Prelude.{◌≡◌, ◌*◌, ◌^◌, ◌<◌, List, [], length, All, ℤ, unsigned_abs, ⊤}
 use Rattle.model_types.specs.Lists.{Lists}
 use Rattle.model_types.specs.declared.answers.Bounds.{Bounds}
 use Rattle.model_types.specs.declared.answers.Cause.{Cause}
 use Rattle.model_types.specs.declared.answers.Cause.TheVariants as causes
 use Rattle.model_types.specs.declared.answers.CaseAnswer.{CaseAnswer}
 use Rattle.model_types.specs.declared.answers.CaseAnswer.TheVariants.{Certified, Uncertified}
-use Rattle.model_types.specs.MemberCounts.{restraints_member_count}
+use Rattle.model_types.specs.MemberCounts.{restraints_member_count, restraints_state_count}
 
 -- a number of an answer is below 2^90 in size
 abbrev pub IsModest : ℤ → Type 0
@@ -38,11 +38,12 @@ abbrev pub IsGuessFor : Lists → Cause → List ℤ → Type 0
 IsGuessFor m (causes.State restraint minus) guess = IsGuess m guess
 IsGuessFor m _ guess = guess ≡ []
 
--- the answer is one of a case of the model: a bound for each row and for each load of a restraint; or a cause, and what
--- stands beside it
+-- the answer is one of a case of the model: a bound for each row and for each load of a restraint, and a state for each member
+-- that has one; or a cause, and what stands beside it
 abbrev pub FitsModel : Lists → CaseAnswer → Type 0
 FitsModel m (Certified u loads states) =
-    (length u ≡ 6 * length m.nodes) × (length loads ≡ restraints_member_count m.restraints) × AreModest u × AreModest loads
+    (length u ≡ 6 * length m.nodes) × (length loads ≡ restraints_member_count m.restraints)
+    × (length states ≡ restraints_state_count m.restraints) × AreModest u × AreModest loads
 FitsModel m (Uncertified cause guess) = IsCauseIn m cause × IsGuessFor m cause guess
 
 -- one answer for each case

@@ -10,7 +10,10 @@ use Rattle.model_types.specs.declared.records.Restraint.{Restraint}
 use Rattle.model_types.specs.declared.records.RestraintKind.{RestraintKind}
 use Rattle.model_types.specs.declared.records.RestraintKind.TheVariants.{Anchor, Linear, Twist, Oneway, Gap, Hanger}
 use Rattle.model_types.specs.declared.records.Case.{Case}
+use Rattle.model_types.specs.declared.records.Temp.{Temp}
+use Rattle.model_types.specs.declared.records.Pressure.{Pressure}
 use Rattle.model_types.specs.declared.records.Force.{Force}
+use Rattle.model_types.specs.declared.records.Move.{Move}
 use Rattle.model_types.specs.declared.records.Record.{Record}
 use Rattle.model_types.specs.declared.records.Record.TheVariants as record_of
 use Rattle.model_types.specs.Lists.{Lists, no_records}
@@ -24,10 +27,13 @@ pub data Kind : Type 0 where
   tee_kind : Kind
   restraint_kind : Kind
   case_kind : Kind
+  temp_kind : Kind
+  pressure_kind : Kind
   force_kind : Kind
+  move_kind : Kind
 
 abbrev pub kinds : List Kind
-kinds = material_kind ∷ section_kind ∷ node_kind ∷ element_kind ∷ tee_kind ∷ restraint_kind ∷ case_kind ∷ force_kind ∷ []
+kinds = material_kind ∷ section_kind ∷ node_kind ∷ element_kind ∷ tee_kind ∷ restraint_kind ∷ case_kind ∷ temp_kind ∷ pressure_kind ∷ force_kind ∷ move_kind ∷ []
 
 -- the place of a kind in that order
 abbrev pub place : Kind → ℕ
@@ -38,7 +44,10 @@ place element_kind = 3
 place tee_kind = 4
 place restraint_kind = 5
 place case_kind = 6
-place force_kind = 7
+place temp_kind = 7
+place pressure_kind = 8
+place force_kind = 9
+place move_kind = 10
 
 -- the records of a kind
 abbrev pub Of : Kind → Type 0
@@ -49,7 +58,10 @@ Of element_kind = Element
 Of tee_kind = Tee
 Of restraint_kind = Restraint
 Of case_kind = Case
+Of temp_kind = Temp
+Of pressure_kind = Pressure
 Of force_kind = Force
+Of move_kind = Move
 
 abbrev pub list : Lists → (k : Kind) → List (Of k)
 list m material_kind = m.materials
@@ -59,7 +71,10 @@ list m element_kind = m.elements
 list m tee_kind = m.tees
 list m restraint_kind = m.restraints
 list m case_kind = m.cases
+list m temp_kind = m.temps
+list m pressure_kind = m.pressures
 list m force_kind = m.forces
+list m move_kind = m.moves
 
 abbrev pub as_record : (k : Kind) → Of k → Record
 as_record material_kind r = record_of.Material r
@@ -69,7 +84,10 @@ as_record element_kind r = record_of.Element r
 as_record tee_kind r = record_of.Tee r
 as_record restraint_kind r = record_of.Restraint r
 as_record case_kind r = record_of.Case r
+as_record temp_kind r = record_of.Temp r
+as_record pressure_kind r = record_of.Pressure r
 as_record force_kind r = record_of.Force r
+as_record move_kind r = record_of.Move r
 
 abbrev pub kind_of : Record → Kind
 kind_of (record_of.Material r) = material_kind
@@ -79,7 +97,10 @@ kind_of (record_of.Element r) = element_kind
 kind_of (record_of.Tee r) = tee_kind
 kind_of (record_of.Restraint r) = restraint_kind
 kind_of (record_of.Case r) = case_kind
+kind_of (record_of.Temp r) = temp_kind
+kind_of (record_of.Pressure r) = pressure_kind
 kind_of (record_of.Force r) = force_kind
+kind_of (record_of.Move r) = move_kind
 
 abbrev pub value_of : (r : Record) → Of (kind_of r)
 value_of (record_of.Material r) = r
@@ -89,7 +110,10 @@ value_of (record_of.Element r) = r
 value_of (record_of.Tee r) = r
 value_of (record_of.Restraint r) = r
 value_of (record_of.Case r) = r
+value_of (record_of.Temp r) = r
+value_of (record_of.Pressure r) = r
 value_of (record_of.Force r) = r
+value_of (record_of.Move r) = r
 
 -- how many records of a kind there are, and how many there may be
 abbrev pub count : Lists → Kind → ℕ
@@ -100,7 +124,10 @@ count m element_kind = length m.elements
 count m tee_kind = length m.tees
 count m restraint_kind = length m.restraints
 count m case_kind = length m.cases
+count m temp_kind = length m.temps
+count m pressure_kind = length m.pressures
 count m force_kind = length m.forces
+count m move_kind = length m.moves
 
 abbrev pub most : Kind → ℕ
 most material_kind = 64
@@ -110,7 +137,10 @@ most element_kind = 4000
 most tee_kind = 500
 most restraint_kind = 2000
 most case_kind = 32
+most temp_kind = 2048
+most pressure_kind = 2048
 most force_kind = 4000
+most move_kind = 1000
 
 -- a stop: a one-way support or a gap, also a gap of 0
 abbrev pub is_stop : RestraintKind → Bool
@@ -121,6 +151,15 @@ is_stop (Oneway dx dy dz gap k) = true
 is_stop (Gap dx dy dz gap k) = true
 is_stop (Hanger rate load) = false
 
+-- an anchor
+abbrev pub is_anchor : RestraintKind → Bool
+is_anchor (Anchor kt kr) = true
+is_anchor (Linear dx dy dz k) = false
+is_anchor (Twist dx dy dz k) = false
+is_anchor (Oneway dx dy dz gap k) = false
+is_anchor (Gap dx dy dz gap k) = false
+is_anchor (Hanger rate load) = false
+
 abbrev pub has_stop : Record → Bool
 has_stop (record_of.Material r) = false
 has_stop (record_of.Section r) = false
@@ -129,14 +168,17 @@ has_stop (record_of.Element r) = false
 has_stop (record_of.Tee r) = false
 has_stop (record_of.Restraint r) = is_stop r.kind
 has_stop (record_of.Case r) = false
+has_stop (record_of.Temp r) = false
+has_stop (record_of.Pressure r) = false
 has_stop (record_of.Force r) = false
+has_stop (record_of.Move r) = false
 
 -- how many restraints are stops
 abbrev pub stop_count : List Restraint → ℕ
 stop_count restraints = length (filter (λ r. is_stop r.kind) restraints)
 
--- whether no two records of a kind may have one key, and the key: a name, the node of a tee, or the case and the node of a force, of
--- which several may have one
+-- whether no two records of a kind may have one key, and the key: a name, the node of a tee, or the case and what it changes: a section
+-- or an anchor, or the node of a force, of which several may have one
 abbrev pub is_keyed : Kind → Bool
 is_keyed material_kind = true
 is_keyed section_kind = true
@@ -145,7 +187,10 @@ is_keyed element_kind = true
 is_keyed tee_kind = true
 is_keyed restraint_kind = true
 is_keyed case_kind = true
+is_keyed temp_kind = true
+is_keyed pressure_kind = true
 is_keyed force_kind = false
+is_keyed move_kind = true
 
 abbrev pub key : Record → List ℕ
 key (record_of.Material r) = r.name
@@ -155,7 +200,10 @@ key (record_of.Element r) = r.name
 key (record_of.Tee r) = r.node.0 ∷ []
 key (record_of.Restraint r) = r.name
 key (record_of.Case r) = r.name
+key (record_of.Temp r) = r.case.0 ∷ r.section.0 ∷ []
+key (record_of.Pressure r) = r.case.0 ∷ r.section.0 ∷ []
 key (record_of.Force r) = r.case.0 ∷ r.node.0 ∷ []
+key (record_of.Move r) = r.case.0 ∷ r.anchor.0 ∷ []
 
 abbrev pub keys : Lists → Kind → List (List ℕ)
 keys m material_kind = map (λ r. r.name) m.materials
@@ -165,7 +213,10 @@ keys m element_kind = map (λ r. r.name) m.elements
 keys m tee_kind = map (λ r. r.node.0 ∷ []) m.tees
 keys m restraint_kind = map (λ r. r.name) m.restraints
 keys m case_kind = map (λ r. r.name) m.cases
+keys m temp_kind = map (λ r. r.case.0 ∷ r.section.0 ∷ []) m.temps
+keys m pressure_kind = map (λ r. r.case.0 ∷ r.section.0 ∷ []) m.pressures
 keys m force_kind = map (λ r. r.case.0 ∷ r.node.0 ∷ []) m.forces
+keys m move_kind = map (λ r. r.case.0 ∷ r.anchor.0 ∷ []) m.moves
 
 -- a record that another names: its kind and its number
 pub record Ref : Type 0 where
@@ -184,7 +235,10 @@ refs (record_of.Element r) = to node_kind r.from.0 ∷ to node_kind r.to.0 ∷ t
 refs (record_of.Tee r) = to node_kind r.node.0 ∷ to element_kind r.branch.0 ∷ to section_kind r.header.0 ∷ []
 refs (record_of.Restraint r) = to node_kind r.node.0 ∷ []
 refs (record_of.Case r) = []
+refs (record_of.Temp r) = to case_kind r.case.0 ∷ to section_kind r.section.0 ∷ []
+refs (record_of.Pressure r) = to case_kind r.case.0 ∷ to section_kind r.section.0 ∷ []
 refs (record_of.Force r) = to case_kind r.case.0 ∷ to node_kind r.node.0 ∷ []
+refs (record_of.Move r) = to case_kind r.case.0 ∷ to restraint_kind r.anchor.0 ∷ []
 
 -- they are there
 abbrev pub AreThere : Lists → List Ref → Type 0
@@ -206,7 +260,10 @@ before_place m now i = record no_records {
   tees = cut 4 now i m.tees;
   restraints = cut 5 now i m.restraints;
   cases = cut 6 now i m.cases;
-  forces = cut 7 now i m.forces;
+  temps = cut 7 now i m.temps;
+  pressures = cut 8 now i m.pressures;
+  forces = cut 9 now i m.forces;
+  moves = cut 10 now i m.moves;
 }
 
 -- the records before number i of a kind

@@ -46,11 +46,10 @@ added m (record_of.Element r) = record m { elements = m.elements ++ r ∷ [] }
 added m (record_of.Tee r) = record m { tees = m.tees ++ r ∷ [] }
 added m (record_of.Restraint r) = record m { restraints = m.restraints ++ r ∷ [] }
 added m (record_of.Case r) = record m { cases = m.cases ++ r ∷ [] }
+added m (record_of.Temp r) = record m { temps = m.temps ++ r ∷ [] }
+added m (record_of.Pressure r) = record m { pressures = m.pressures ++ r ∷ [] }
 added m (record_of.Force r) = record m { forces = m.forces ++ r ∷ [] }
-
--- the records of the kinds that aren't read yet
-abbrev pub other_records : Lists → Lists
-other_records m = record m { materials = []; sections = []; nodes = []; elements = []; tees = []; restraints = []; cases = []; forces = [] }
+added m (record_of.Move r) = record m { moves = m.moves ++ r ∷ [] }
 
 -- the names of a space, in text order
 abbrev pub names_in : Lists → Space → List (List ℕ)

@@ -2,7 +2,7 @@
 use Rattle.std.specs.Prelude.{◌≡◌, ℕ, ℤ, pos, neg_ℤ, ◌≤ℤ◌, IsTrue, Option, IfSome}
 use Rattle.angle_table.specs.HalfAngle.{is_bend_angle}
 use Rattle.model_types.specs.declared.ranges.Range.{Range}
-use Rattle.model_types.specs.declared.ranges.TheConstants.{ACCELERATION, BEND_RADIUS, COORDINATE, CORNER, DENSITY, DIAMETER, DIRECTION_PART, EXPANSION, EXTRA_WEIGHT, GAP, HANGER_LOAD, LOAD, MODULUS, PAD_THICKNESS, POISSON_RATIO, PRESSURE, STIFFNESS, TEE_COEFFICIENT, TEMPERATURE_CHANGE, WALL, WALL_ALLOWANCE}
+use Rattle.model_types.specs.declared.ranges.TheConstants.{ACCELERATION, BEND_RADIUS, COORDINATE, CORNER, DENSITY, DIAMETER, DIRECTION_PART, EXPANSION, EXTRA_WEIGHT, GAP, HANGER_LOAD, LOAD, MODULUS, MOVEMENT, PAD_THICKNESS, POISSON_RATIO, PRESSURE, STIFFNESS, TEE_COEFFICIENT, TEMPERATURE_CHANGE, WALL, WALL_ALLOWANCE}
 use Rattle.model_types.specs.declared.records.Material.{Material}
 use Rattle.model_types.specs.declared.records.Section.{Section}
 use Rattle.model_types.specs.declared.records.Node.{Node}
@@ -15,6 +15,7 @@ use Rattle.model_types.specs.declared.records.RestraintKind.{RestraintKind}
 use Rattle.model_types.specs.declared.records.RestraintKind.TheVariants.{Anchor, Linear, Twist, Oneway, Gap, Hanger}
 use Rattle.model_types.specs.declared.records.Case.{Case}
 use Rattle.model_types.specs.declared.records.Force.{Force}
+use Rattle.model_types.specs.declared.records.Move.{Move}
 use Rattle.model_types.specs.declared.records.Record.{Record}
 use Rattle.model_types.specs.declared.records.Record.TheVariants as record_of
 use Rattle.text_words.specs.Names.{IsName}
@@ -109,6 +110,11 @@ pub record ForceInForm (f : Force) : Type 0 where
   pub my : IsIn LOAD f.my
   pub mz : IsIn LOAD f.mz
 
+pub record MoveInForm (v : Move) : Type 0 where
+  pub x : IsIn MOVEMENT v.x
+  pub y : IsIn MOVEMENT v.y
+  pub z : IsIn MOVEMENT v.z
+
 -- the record's names and numbers are in their forms and ranges
 abbrev pub InForm : Record → Type 0
 InForm (record_of.Material r) = MaterialInForm r
@@ -118,4 +124,7 @@ InForm (record_of.Element r) = ElementInForm r
 InForm (record_of.Tee r) = TeeInForm r.kind
 InForm (record_of.Restraint r) = IsName r.name × KindInForm r.kind
 InForm (record_of.Case r) = CaseInForm r
+InForm (record_of.Temp r) = IsIn TEMPERATURE_CHANGE r.dt
+InForm (record_of.Pressure r) = IsIn PRESSURE r.p
 InForm (record_of.Force r) = ForceInForm r
+InForm (record_of.Move r) = MoveInForm r

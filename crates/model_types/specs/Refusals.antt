@@ -1,5 +1,5 @@
 -- Which number refuses a record that breaks a rule.
-use Rattle.std.specs.Prelude.{◌≡◌, ℕ, ◌*◌, ◌==◌, Bool, false, ◌||◌, ◌&&◌, nat_lt, nat_le, nat_eq, int_le, int_lt, ℤ, pos, ◌*ℤ◌, unsigned_abs, List, [], ◌∷◌, ◌++◌, position, slice_get, is_some, Option, Some, None, Result, Ok, Err, if◌then◌else◌}
+use Rattle.std.specs.Prelude.{◌≡◌, ℕ, ◌*◌, ◌==◌, Bool, false, ◌||◌, ◌&&◌, not, nat_lt, nat_le, nat_eq, int_le, int_lt, ℤ, pos, ◌*ℤ◌, unsigned_abs, List, [], ◌∷◌, ◌++◌, position, slice_get, is_some, Option, Some, None, Result, Ok, Err, if◌then◌else◌}
 use Rattle.std.specs.Cmp.Lexicographic.{pointwise}
 use Rattle.std.specs.Option.{option_map_or}
 use Rattle.flex_interval.specs.Ends.{Ends}
@@ -11,12 +11,13 @@ use Rattle.model_types.specs.declared.spans.Difference.{Difference}
 use Rattle.model_types.specs.declared.records.Section.{Section}
 use Rattle.model_types.specs.declared.records.Node.{Node}
 use Rattle.model_types.specs.declared.records.Element.{Element}
+use Rattle.model_types.specs.declared.records.Restraint.{Restraint}
 use Rattle.model_types.specs.declared.records.Shape.{Shape}
 use Rattle.model_types.specs.declared.records.Shape.TheVariants.{Straight, Bend}
 use Rattle.model_types.specs.declared.records.Record.{Record}
 use Rattle.model_types.specs.declared.records.Record.TheVariants as record_of
 use Rattle.model_types.specs.Bends.{difference_between, difference_to, are_parallel, shortest_chord, longest_chord}
-use Rattle.model_types.specs.Kinds.{Kind, Of, list, as_record, before, kind_of, count, most, is_keyed, key, keys, Ref, refs, has_stop, stop_count}
+use Rattle.model_types.specs.Kinds.{Kind, Of, list, as_record, before, kind_of, count, most, is_keyed, key, keys, Ref, refs, is_anchor, has_stop, stop_count}
 use Rattle.model_types.specs.Lists.{Lists}
 use Rattle.model_types.specs.Rules.{KeepsRules, square_distance}
 
@@ -110,7 +111,14 @@ IsSineFor (record_of.Element r) sine = IsSineOf r.shape sine
 IsSineFor (record_of.Tee r) sine = Unit {0}
 IsSineFor (record_of.Restraint r) sine = Unit {0}
 IsSineFor (record_of.Case r) sine = Unit {0}
+IsSineFor (record_of.Temp r) sine = Unit {0}
+IsSineFor (record_of.Pressure r) sine = Unit {0}
 IsSineFor (record_of.Force r) sine = Unit {0}
+IsSineFor (record_of.Move r) sine = Unit {0}
+
+-- the restraint of that number is no anchor
+abbrev pub is_other_restraint : List Restraint → ℕ → Bool
+is_other_restraint restraints number = option_map_or (λ x. not (is_anchor x.kind)) (slice_get restraints number) false
 
 -- the tests of a record's own kind
 abbrev pub own_tests : Lists → Record → List Test
@@ -121,7 +129,10 @@ own_tests m (record_of.Element r) = test 10 (has_no_length m.nodes r) ∷ test 1
 own_tests m (record_of.Tee r) = []
 own_tests m (record_of.Restraint r) = []
 own_tests m (record_of.Case r) = []
+own_tests m (record_of.Temp r) = []
+own_tests m (record_of.Pressure r) = []
 own_tests m (record_of.Force r) = []
+own_tests m (record_of.Move r) = test 9 (is_other_restraint m.restraints r.anchor.0) ∷ []
 
 -- the kind has as many records as it may have, or the record is one stop too many
 abbrev pub is_too_many : Lists → Record → Bool

@@ -1,19 +1,21 @@
 -- The rules that every model keeps.
-use Rattle.std.specs.Prelude.{◌≡◌, ◌≢◌, ℕ, ℤ, ◌+◌, ◌*◌, ◌<◌, ◌≤◌, pos, ◌-ℤ◌, ◌*ℤ◌, ◌<ℤ◌, ◌≤ℤ◌, unsigned_abs, IsTrue, length, slice_get, Some, Ok, All, AllPairs, Contains}
+use Rattle.std.specs.Prelude.{◌≡◌, ◌≢◌, ℕ, ℤ, ◌+◌, ◌*◌, ◌<◌, ◌≤◌, pos, ◌-ℤ◌, ◌*ℤ◌, ◌<ℤ◌, ◌≤ℤ◌, unsigned_abs, IsTrue, [], length, slice_get, Some, Ok, All, AllPairs, Contains}
 use Rattle.flex_interval.specs.Ends.{Ends}
 use Rattle.angle_table.specs.HalfAngle.{sine_of}
 use Rattle.model_types.specs.declared.ranges.TheConstants.{LONGEST, MOST_STOPS}
 use Rattle.model_types.specs.declared.records.Section.{Section}
 use Rattle.model_types.specs.declared.records.Node.{Node}
 use Rattle.model_types.specs.declared.records.Element.{Element}
+use Rattle.model_types.specs.declared.records.Move.{Move}
+use Rattle.model_types.specs.declared.records.Restraint.{Restraint}
 use Rattle.model_types.specs.declared.records.Shape.{Shape}
 use Rattle.model_types.specs.declared.records.Shape.TheVariants.{Straight, Bend}
 use Rattle.model_types.specs.declared.spans.Difference.{Difference}
 use Rattle.model_types.specs.declared.records.Record.{Record}
 use Rattle.model_types.specs.declared.records.Record.TheVariants as record_of
 use Rattle.model_types.specs.Bends.{difference_between, difference_to, AreParallel, IsNear, IsChordSquare}
-use Rattle.model_types.specs.Kinds.{Kind, material_kind, section_kind, node_kind, element_kind, tee_kind, restraint_kind, case_kind, force_kind, Of, list, as_record, kind_of, count, most, is_keyed, key, keys, refs, AreThere, has_stop, stop_count, before}
-use Rattle.model_types.specs.Lists.{Lists, no_records, other_records}
+use Rattle.model_types.specs.Kinds.{Kind, material_kind, section_kind, node_kind, element_kind, tee_kind, restraint_kind, case_kind, temp_kind, pressure_kind, force_kind, move_kind, Of, list, as_record, kind_of, count, most, is_keyed, key, keys, refs, AreThere, is_anchor, has_stop, stop_count, before}
+use Rattle.model_types.specs.Lists.{Lists}
 use Rattle.model_types.specs.Ranges.{InForm}
 use Rattle.model_types.specs.Tees.{IsTee}
 
@@ -53,6 +55,10 @@ pub record HasSoundWall (s : Section) : Type 0 where
   pub bore : (pos 2 *ℤ s.t) <ℤ s.d
   pub sound_wall : s.allowance <ℤ s.t
 
+-- a movement: the restraint that it names is an anchor
+abbrev pub MovesAnchor : Lists → Move → Type 0
+MovesAnchor m r = (x : Restraint) → slice_get m.restraints r.anchor.0 ≡ Some x → IsTrue (is_anchor x.kind)
+
 -- the rule of a record's own kind, over and above its form and that the records that it names are there
 abbrev pub KeepsOwn : Lists → Record → Type 0
 KeepsOwn m (record_of.Material r) = Unit {0}
@@ -62,7 +68,10 @@ KeepsOwn m (record_of.Element r) = HasSpan m r
 KeepsOwn m (record_of.Tee r) = Unit {0}
 KeepsOwn m (record_of.Restraint r) = Unit {0}
 KeepsOwn m (record_of.Case r) = Unit {0}
+KeepsOwn m (record_of.Temp r) = Unit {0}
+KeepsOwn m (record_of.Pressure r) = Unit {0}
 KeepsOwn m (record_of.Force r) = Unit {0}
+KeepsOwn m (record_of.Move r) = MovesAnchor m r
 
 -- a record keeps its rule among others: it is in form, the records that it names are there, and it keeps its kind's own rule
 pub record Keeps (m : Lists) (r : Record) : Type 0 where
@@ -71,13 +80,13 @@ pub record Keeps (m : Lists) (r : Record) : Type 0 where
   pub own : KeepsOwn m r
 
 -- each record keeps its rule among those before it, no two of a kind have one key, no kind has too many, nor are there too
--- many stops, and there is none of a kind that isn't read yet
+-- many stops, and there is no check, a kind that isn't read yet
 pub record KeepsRules (m : Lists) : Type 0 where
   pub records : (k : Kind) (i : ℕ) (x : Of k) → slice_get (list m k) i ≡ Some x → Keeps (before m k i) (as_record k x)
   pub distinct : (k : Kind) → IsTrue (is_keyed k) → AllPairs (λ a b. a ≢ b) (keys m k)
   pub limits : (k : Kind) → count m k ≤ most k
   pub stops : stop_count m.restraints ≤ MOST_STOPS
-  pub other_kinds : other_records m ≡ no_records
+  pub no_check : m.checks ≡ []
 
 -- a record may be the next: it keeps its rule, its key is new, and there is room for it
 pub record MayBeNext (m : Lists) (r : Record) : Type 0 where
@@ -95,7 +104,10 @@ pub record AllKeep (m : Lists) : Type 0 where
   pub tees : All (λ r. Keeps m (record_of.Tee r)) m.tees
   pub restraints : All (λ r. Keeps m (record_of.Restraint r)) m.restraints
   pub cases : All (λ r. Keeps m (record_of.Case r)) m.cases
+  pub temps : All (λ r. Keeps m (record_of.Temp r)) m.temps
+  pub pressures : All (λ r. Keeps m (record_of.Pressure r)) m.pressures
   pub forces : All (λ r. Keeps m (record_of.Force r)) m.forces
+  pub moves : All (λ r. Keeps m (record_of.Move r)) m.moves
 
 -- no kind has more records than it may
 pub record KeepsLimits (m : Lists) : Type 0 where
@@ -106,7 +118,10 @@ pub record KeepsLimits (m : Lists) : Type 0 where
   pub tees : length m.tees ≤ most tee_kind
   pub restraints : length m.restraints ≤ most restraint_kind
   pub cases : length m.cases ≤ most case_kind
+  pub temps : length m.temps ≤ most temp_kind
+  pub pressures : length m.pressures ≤ most pressure_kind
   pub forces : length m.forces ≤ most force_kind
+  pub moves : length m.moves ≤ most move_kind
 
 -- a model keeps the rules, has a node, and the elements at the node of each tee make it; and so each record keeps its rule among all,
 -- and no list is too long

@@ -133,6 +133,12 @@ pub const LOAD: Range = Range {
     most: 1_000_000_000_000,
 };
 
+/// Parts of an anchor's movement, in micrometres.
+pub const MOVEMENT: Range = Range {
+    least: -1_000_000,
+    most: 1_000_000,
+};
+
 /// How many restraints may be one-way supports or gaps.
 pub const MOST_STOPS: usize = 1000;
 

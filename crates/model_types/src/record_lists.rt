@@ -1,5 +1,5 @@
 //! The records of each kind, one list a kind, and the tests of one more record.
-ghost use Rattle.std.specs.Prelude.{◌≡◌, ◌*◌, ◌≤◌, ◌^◌, pos, ◌*ℤ◌, int_le, length, [], ◌∷◌, false, map, position, is_some, nat_eq, ◌==◌, OnOk, OnErr, IfOk, All};
+ghost use Rattle.std.specs.Prelude.{◌≡◌, ◌*◌, ◌≤◌, ◌^◌, pos, ◌*ℤ◌, int_le, length, [], ◌∷◌, false, ◌&&◌, map, position, is_some, nat_eq, ◌==◌, OnOk, OnErr, IfOk, All};
 ghost use Rattle.std.specs.Cmp.Lexicographic.{pointwise};
 ghost use Rattle.model_types.specs.Lists.{names_in, record_number, no_records, added};
 ghost use Rattle.model_types.specs.Kinds.{kind_of, count, most, refs, has_stop, stop_count};
@@ -151,7 +151,10 @@ impl RecordLists {
             Record::Tee(r) => Ok(self.tees.push(r)?),
             Record::Restraint(r) => self.restraints.push(r),
             Record::Case(r) => self.cases.push(r),
+            Record::Temp(r) => Ok(self.temps.push(r)?),
+            Record::Pressure(r) => Ok(self.pressures.push(r)?),
             Record::Force(r) => Ok(self.forces.push(r)?),
+            Record::Move(r) => Ok(self.moves.push(r)?),
         }
     }
 
@@ -202,7 +205,10 @@ impl RecordLists {
             Record::Tee(r) => has_tee(self.tees.as_slice(), r.node.0),
             Record::Restraint(r) => self.look_up(Space::Restraint, &r.name).is_some(),
             Record::Case(r) => self.look_up(Space::Case, &r.name).is_some(),
+            Record::Temp(r) => has_temp(self.temps.as_slice(), r.case.0, r.section.0),
+            Record::Pressure(r) => has_pressure(self.pressures.as_slice(), r.case.0, r.section.0),
             Record::Force(_) => false,
+            Record::Move(r) => has_move(self.moves.as_slice(), r.case.0, r.anchor.0),
         }
     }
 
@@ -224,8 +230,18 @@ impl RecordLists {
                     || self.sections.len() <= r.header.0 as usize
             }
             Record::Restraint(r) => self.nodes.len() <= r.node.0 as usize,
+            Record::Temp(r) => {
+                self.cases.len() <= r.case.0 as usize || self.sections.len() <= r.section.0 as usize
+            }
+            Record::Pressure(r) => {
+                self.cases.len() <= r.case.0 as usize || self.sections.len() <= r.section.0 as usize
+            }
             Record::Force(r) => {
                 self.cases.len() <= r.case.0 as usize || self.nodes.len() <= r.node.0 as usize
+            }
+            Record::Move(r) => {
+                self.cases.len() <= r.case.0 as usize
+                    || self.restraints.len() <= r.anchor.0 as usize
             }
         }
     }
@@ -239,11 +255,13 @@ impl RecordLists {
     {
         match candidate {
             Record::Material(_) | Record::Node(_) | Record::Restraint(_) => None,
-            Record::Tee(_) | Record::Case(_) | Record::Force(_) => None,
+            Record::Tee(_) | Record::Case(_) | Record::Temp(_) => None,
+            Record::Pressure(_) | Record::Force(_) => None,
             Record::Section(r) => section_refusal(r),
             Record::Element(r) => {
                 element_refusal(self.nodes.as_slice(), self.sections.as_slice(), r, sine)
             }
+            Record::Move(r) => move_refusal(self.restraints.as_slice(), r.anchor.0),
         }
     }
 
@@ -267,7 +285,10 @@ impl RecordLists {
             Record::Tee(_) => self.tees.len(),
             Record::Restraint(_) => self.restraints.len(),
             Record::Case(_) => self.cases.len(),
+            Record::Temp(_) => self.temps.len(),
+            Record::Pressure(_) => self.pressures.len(),
             Record::Force(_) => self.forces.len(),
+            Record::Move(_) => self.moves.len(),
         }
     }
 }
@@ -284,7 +305,10 @@ fn most(candidate: &Record) -> usize
         Record::Tee(_) => 500,
         Record::Restraint(_) => 2000,
         Record::Case(_) => 32,
+        Record::Temp(_) => 2048,
+        Record::Pressure(_) => 2048,
         Record::Force(_) => 4000,
+        Record::Move(_) => 1000,
     }
 }
 
@@ -296,7 +320,8 @@ fn is_stop(candidate: &Record) -> bool
         Record::Restraint(r) => r.kind.is_stop(),
         Record::Material(_) | Record::Section(_) | Record::Node(_) => false,
         Record::Element(_) | Record::Tee(_) => false,
-        Record::Case(_) | Record::Force(_) => false,
+        Record::Case(_) | Record::Temp(_) | Record::Pressure(_) => false,
+        Record::Force(_) | Record::Move(_) => false,
     }
 }
 
@@ -312,6 +337,71 @@ fn tee_at(tees: &[Tee], node: u32) -> Option<usize>
     ensures { result ≡ position (λ t. t.node.0 == node) tees.now }
 {
     tees.iter().position(|tee| tee.node.0 == node)
+}
+
+// Whether a case has a change of temperature for a section.
+fn has_temp(temps: &[Temp], case: u32, section: u32) -> bool
+    ensures { result ≡ is_some (position (pointwise nat_eq (case ∷ section ∷ [])) (map (λ t. t.case.0 ∷ t.section.0 ∷ []) temps.now)) }
+{
+    temp_at(temps, case, section).is_some()
+}
+
+fn temp_at(temps: &[Temp], case: u32, section: u32) -> Option<usize>
+    ensures { result ≡ position (λ t. t.case.0 == case && t.section.0 == section) temps.now }
+{
+    temps
+        .iter()
+        .position(|t| t.case.0 == case && t.section.0 == section)
+}
+
+// Whether a case has a pressure for a section.
+fn has_pressure(pressures: &[Pressure], case: u32, section: u32) -> bool
+    ensures { result ≡ is_some (position (pointwise nat_eq (case ∷ section ∷ [])) (map (λ p. p.case.0 ∷ p.section.0 ∷ []) pressures.now)) }
+{
+    pressure_at(pressures, case, section).is_some()
+}
+
+fn pressure_at(pressures: &[Pressure], case: u32, section: u32) -> Option<usize>
+    ensures { result ≡ position (λ p. p.case.0 == case && p.section.0 == section) pressures.now }
+{
+    pressures
+        .iter()
+        .position(|p| p.case.0 == case && p.section.0 == section)
+}
+
+// Whether a case has a movement of an anchor.
+fn has_move(moves: &[Move], case: u32, anchor: u32) -> bool
+    ensures { result ≡ is_some (position (pointwise nat_eq (case ∷ anchor ∷ [])) (map (λ v. v.case.0 ∷ v.anchor.0 ∷ []) moves.now)) }
+{
+    move_at(moves, case, anchor).is_some()
+}
+
+fn move_at(moves: &[Move], case: u32, anchor: u32) -> Option<usize>
+    ensures { result ≡ position (λ v. v.case.0 == case && v.anchor.0 == anchor) moves.now }
+{
+    moves
+        .iter()
+        .position(|v| v.case.0 == case && v.anchor.0 == anchor)
+}
+
+// The test of a movement: the restraint that it names is no anchor.
+fn move_refusal(restraints: &[Restraint], anchor: u32) -> Option<u8>
+    ensures { result ≡ refused.first_refusal (refused.test 9 (refused.is_other_restraint restraints.now anchor) ∷ []) }
+{
+    if is_other_restraint(restraints, anchor) {
+        return Some(9);
+    }
+    None
+}
+
+// Whether the restraint of that number is there and is no anchor.
+fn is_other_restraint(restraints: &[Restraint], number: u32) -> bool
+    ensures { result ≡ refused.is_other_restraint restraints.now number }
+{
+    match restraints.get(number as usize) {
+        Some(restraint) => !restraint.kind.is_anchor(),
+        None => false,
+    }
 }
 
 // How many restraints are one-way supports or gaps.

@@ -1,7 +1,7 @@
 //! The records of a model. Lengths are in micrometres, and `None` is a default that the text leaves as `-`.
 ghost use Rattle.std.specs.Prelude.{◌≡◌, ◌≤◌};
-ghost use Rattle.model_types.specs.Kinds.{is_stop};
-ghost use Rattle.model_types.specs.MemberCounts.{restraint_member_count, shape_member_count};
+ghost use Rattle.model_types.specs.Kinds.{is_anchor, is_stop};
+ghost use Rattle.model_types.specs.MemberCounts.{restraint_member_count, restraint_state_count, shape_member_count};
 
 use crate::ids::{CaseId, CheckId, ElementId, MaterialId, NodeId, RestraintId, SectionId};
 use text_words::Name;
@@ -180,6 +180,18 @@ impl RestraintKind {
         }
     }
 
+    /// How many of them are open or closed: that of a one-way support, and those of a gap that isn't 0.
+    pub fn state_count(&self) -> usize
+        ensures { result ≡ restraint_state_count self.now }
+    {
+        match self {
+            RestraintKind::Oneway { .. } => 1,
+            RestraintKind::Gap { gap, .. } => if *gap == 0 { 0 } else { 2 },
+            RestraintKind::Anchor { .. } | RestraintKind::Hanger { .. } => 0,
+            RestraintKind::Linear { .. } | RestraintKind::Twist { .. } => 0,
+        }
+    }
+
     /// Whether a restraint of this kind is a stop: a one-way support or a gap, also a gap of 0.
     pub fn is_stop(&self) -> bool
         ensures { result ≡ is_stop self.now }
@@ -188,6 +200,18 @@ impl RestraintKind {
             RestraintKind::Oneway { .. } | RestraintKind::Gap { .. } => true,
             RestraintKind::Anchor { .. } | RestraintKind::Hanger { .. } => false,
             RestraintKind::Linear { .. } | RestraintKind::Twist { .. } => false,
+        }
+    }
+
+    /// Whether a restraint of this kind is an anchor.
+    pub fn is_anchor(&self) -> bool
+        ensures { result ≡ is_anchor self.now }
+    {
+        match self {
+            RestraintKind::Anchor { .. } => true,
+            RestraintKind::Linear { .. } | RestraintKind::Twist { .. } => false,
+            RestraintKind::Oneway { .. } | RestraintKind::Gap { .. } => false,
+            RestraintKind::Hanger { .. } => false,
         }
     }
 }
@@ -293,5 +317,8 @@ pub enum Record {
     Tee(Tee),
     Restraint(Restraint),
     Case(Case),
+    Temp(Temp),
+    Pressure(Pressure),
     Force(Force),
+    Move(Move),
 }

@@ -1,4 +1,4 @@
-use Rattle.std.proofs.Common.{rules, ◌≡◌, Ok, FitsSigned, to_z-of_z, subst, sym, ap, ◌∙◌}
+use Rattle.std.proofs.Common.{rules, Ok, FitsSigned, to_z-of_z, subst, sym, ap, ◌∙◌}
 use Rattle.std.specs.Int.{w128}
 use Rattle.model_types.specs.Refusals.{IsSineOf}
 use Rattle.model_types.specs.declared.answers.Bounds.{Bounds}

@@ -1,4 +1,4 @@
-use Rattle.std.proofs.Common.{◌≡◌, ℕ, ◌<◌, Bool, true, List, [], ◌∷◌, length, position, not, Option, Some, Err, sym, ap, ◌∙◌}
+use Rattle.std.proofs.Common.{◌≡◌, ℕ, ◌<◌, Bool, true, List, [], ◌∷◌, length, position, not, Some, Err, sym, ap, ◌∙◌}
 use Rattle.std.proofs.lemmas.Bool.{not-false}
 use Rattle.std.proofs.lemmas.List.Quantifiers.{position-Some}
 use Rattle.std.proofs.lemmas.Option.{none-some}
@@ -7,7 +7,6 @@ use Rattle.model_types.specs.Kinds.{tee_kind}
 use Rattle.model_types.specs.Lists.{Lists}
 use Rattle.model_types.specs.Tees.{is_tee, broken_tee}
 use Rattle.model_text.specs.Lines.{making_line}
-use Rattle.model_text.specs.Grammar.{without_broken}
 use Rattle.model_text.proofs.LineLemmas.{ok_and, some_there, whole_with}
 use Rattle.model_text.proofs.LineLaws.{lines_are_determined, lines_are_told}
 use Rattle.model_text.proofs.reader.whole.Goals as goal

@@ -18,5 +18,8 @@ returns c =
     let tees = append_kind m record_of.Tee m.tees c.tees.ensures.records elements c.in_ok-put_all-5.ensures in
     let restraints = append_kind m record_of.Restraint m.restraints c.restraints.ensures.records tees c.in_ok-put_all-6.ensures in
     let cases = append_kind m record_of.Case m.cases c.cases.ensures.records restraints c.in_ok-put_all-7.ensures in
-    let forces = append_kind m record_of.Force m.forces c.forces.ensures.records cases c.in_ok-put_all-8.ensures in
-    forces ∙ simp (append_assoc, append-nil)
+    let temps = append_kind m record_of.Temp m.temps c.temps.ensures.records cases c.in_ok-put_all-8.ensures in
+    let pressures = append_kind m record_of.Pressure m.pressures c.pressures.ensures.records temps c.in_ok-put_all-9.ensures in
+    let forces = append_kind m record_of.Force m.forces c.forces.ensures.records pressures c.in_ok-put_all-10.ensures in
+    let moves = append_kind m record_of.Move m.moves c.moves.ensures.records forces c.in_ok-put_all-11.ensures in
+    moves ∙ simp (append_assoc, append-nil)

@@ -1,4 +1,4 @@
-use Rattle.std.proofs.Common.{rules, ◌≡◌, FitsSigned, to_z, of_z, to_z-of_z, sym, ◌∙◌}
+use Rattle.std.proofs.Common.{rules, FitsSigned, to_z-of_z}
 use Rattle.std.specs.Int.{w128}
 use Rattle.model_types.proofs.SpanLemmas.{product_fits, same_bits}
 use Rattle.model_types.proofs.spans.are_same_products.Goals as goal

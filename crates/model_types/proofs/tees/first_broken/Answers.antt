@@ -1,4 +1,4 @@
-use Rattle.std.proofs.Common.{◌≡◌, ◌≤◌, ◌<◌, length, get_or, not, true, false, ap, sym, ◌∙◌, arith}
+use Rattle.std.proofs.Common.{not, ap, sym, ◌∙◌, arith}
 use Rattle.model_types.specs.Tees.{is_tee}
 use Rattle.model_types.proofs.TeeLemmas.{first_position, no_position}
 use Rattle.model_types.proofs.tees.first_broken.Goals as goal
