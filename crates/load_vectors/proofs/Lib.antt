@@ -1,2 +1,15 @@
 pub mod Sizes
-pub mod TotalLemmas
+pub mod UnitLemmas
+pub mod PartLemmas
+pub mod WeightLemmas
+pub mod VectorLemmas
+pub mod LengthLemmas
+pub mod WallLemmas
+pub mod HalfLemmas
+pub mod MetreLemmas
+pub mod RecordLemmas
+pub mod Listing
+pub mod AddingLemmas
+pub mod SumLemmas
+pub mod RowLemmas
+pub mod LawLemmas

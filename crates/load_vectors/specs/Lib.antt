@@ -1,2 +1,7 @@
+pub mod Weights
+pub mod Deformations
+pub mod Cases
+pub mod NodeLoads
 pub mod Loads
 pub mod Totals
+pub mod Laws

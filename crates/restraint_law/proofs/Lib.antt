@@ -1,3 +1,4 @@
 pub mod DirectionLemmas
 pub mod MemberLemmas
 pub mod GapLemmas
+pub mod StillLaw

@@ -1,13 +1,15 @@
 -- The laws of a restraint's members, and their states.
-use Rattle.std.specs.Prelude.{◌≡◌, ℕ, ◌+◌, ◌^◌, Bool, false, List, replicate, Option, Some, None, ℤ, pos, ◌*ℤ◌, if◌then◌else◌}
+use Rattle.std.specs.Prelude.{◌≡◌, ℕ, ◌+◌, ◌^◌, ◌==◌, Bool, true, false, List, replicate, Option, Some, None, ℤ, pos, ◌*ℤ◌, if◌then◌else◌}
 use Rattle.std.specs.List.{flat_map, range_with_len}
 use Rattle.int_laws.specs.Division.{floor_of, ceil_of}
 use Rattle.flex_interval.specs.Ends.{Ends}
-use Rattle.flex_interval.specs.Fraction.{Fraction, Within, whole, scaled}
+use Rattle.flex_interval.specs.Fraction.{Fraction, whole, scaled}
 use Rattle.flex_interval.specs.Operations.{ends}
 use Rattle.member_set.specs.Members.{no_law}
 use Rattle.member_set.specs.declared.members.Law.{Law}
 use Rattle.member_set.specs.declared.members.Law.TheVariants as laws
+use Rattle.model_types.specs.Kinds.{is_anchor}
+use Rattle.model_types.specs.declared.records.Move.{Move}
 use Rattle.model_types.specs.MemberCounts.{restraint_member_count}
 use Rattle.model_types.specs.declared.records.RestraintKind.{RestraintKind}
 use Rattle.model_types.specs.declared.records.RestraintKind.TheVariants.{Anchor, Linear, Twist, Oneway, Gap, Hanger}
@@ -15,12 +17,12 @@ use Rattle.restraint_law.specs.Restraints.{is_shut}
 
 -- ---- laws
 
--- a gap of so many micrometres, in 2^-56 m: exactly, and rounded outwards
-abbrev pub exact_gap : ℤ → Fraction
-exact_gap gap = scaled (whole gap) (pos (2 ^ 56)) (pos 1000000)
+-- a length of so many micrometres, in 2^-56 m: exactly, and rounded outwards
+abbrev pub exact_micrometres : ℤ → Fraction
+exact_micrometres length = scaled (whole length) (pos (2 ^ 56)) (pos 1000000)
 
-abbrev pub gap_of : ℤ → Ends
-gap_of gap = ends (floor_of (gap *ℤ pos (2 ^ 56)) (pos 1000000)) (ceil_of (gap *ℤ pos (2 ^ 56)) (pos 1000000))
+abbrev pub micrometres_of : ℤ → Ends
+micrometres_of length = ends (floor_of (length *ℤ pos (2 ^ 56)) (pos 1000000)) (ceil_of (length *ℤ pos (2 ^ 56)) (pos 1000000))
 
 -- the gap past which the members of a restraint hold one way, in micrometres; none where they hold both ways, as that of a gap
 -- of 0 does
@@ -34,22 +36,45 @@ one_way_gap (Hanger rate load) = None
 
 -- the law past a gap; without one it is linear, and begins at 0
 abbrev pub law_past : Option ℤ → Law
-law_past (Some gap) = laws.Oneway (gap_of gap)
+law_past (Some gap) = laws.Oneway (micrometres_of gap)
 law_past None = no_law
 
--- the law of a member
+-- the law of a member where nothing moves the restraint
 abbrev pub kind_law : RestraintKind → ℕ → Law
 kind_law kind part = law_past (one_way_gap kind)
 
--- the law is one-way past an interval that holds the exact gap
-abbrev pub IsPastGap : ℤ → Law → Type 0
-IsPastGap gap (laws.Linear offset) = ⊥
-IsPastGap gap (laws.Oneway e) = Within e (exact_gap gap)
+-- a movement along the axis of an anchor's translation, in micrometres; a rotation has none
+abbrev pub along : Move → ℕ → ℤ
+along v part = if part == 0 then v.x else if part == 1 then v.y else if part == 2 then v.z else pos 0
 
--- it is so where there is a gap, and else linear without an initial deformation
-abbrev pub EnclosesGap : Option ℤ → Law → Type 0
-EnclosesGap (Some gap) law = IsPastGap gap law
-EnclosesGap None law = law ≡ no_law
+-- the movement of a member in micrometres: of an anchor that a case moves
+abbrev pub movement_by : Bool → Option Move → ℕ → ℤ
+movement_by true (Some v) part = along v part
+movement_by true None part = pos 0
+movement_by false moved part = pos 0
+
+abbrev pub movement : RestraintKind → Option Move → ℕ → ℤ
+movement kind moved part = movement_by (is_anchor kind) moved part
+
+-- the law past a gap of so many micrometres; without one it is linear, and begins at a movement
+abbrev pub law_from : Option ℤ → ℤ → Law
+law_from (Some gap) movement = laws.Oneway (micrometres_of gap)
+law_from None movement = laws.Linear (micrometres_of movement)
+
+-- the law of a member in a case, in which the restraint may be moved; without a movement it is `kind_law`
+abbrev pub case_law : RestraintKind → Option Move → ℕ → Law
+case_law kind moved part = law_from (one_way_gap kind) (movement kind moved part)
+
+-- the exact number from which the law's force begins: the gap, or the movement
+abbrev pub start_from : Option ℤ → ℤ → ℤ
+start_from (Some gap) movement = gap
+start_from None movement = movement
+
+abbrev pub exact_start : RestraintKind → Option Move → ℕ → Fraction
+exact_start kind moved part = exact_micrometres (start_from (one_way_gap kind) (movement kind moved part))
+
+abbrev pub StillLawsAreOfTheirKind : Type 0
+StillLawsAreOfTheirKind = (kind : RestraintKind) (part : ℕ) → case_law kind None part ≡ kind_law kind part
 
 -- ---- states
 

@@ -7,4 +7,4 @@ mod states;
 
 pub use direction::{Direction, unit_vector};
 pub use members::restraint;
-pub use states::{law, starts_closed, state_count};
+pub use states::{law, starts_closed, state_count, still_laws_are_of_their_kind};

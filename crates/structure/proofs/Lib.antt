@@ -12,3 +12,4 @@ pub mod LengthLemmas
 pub mod StationLemmas
 pub mod StateLaw
 pub mod Runs
+pub mod StateOrder

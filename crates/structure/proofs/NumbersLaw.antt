@@ -76,7 +76,7 @@ root_order n = elim (int_eq (power (root_of n) 2) n) as (λ t. root_of n ≤ℤ 
 ]
 
 -- the enclosure of a length holds a number
-length_exists : (d : Span) → (l : Fraction) × IsLengthWithin d l
+pub length_exists : (d : Span) → (l : Fraction) × IsLengthWithin d l
 length_exists d =
     let n = square_of d *ℤ pos (2 ^ 72) in
     (record { num = root_of n; den = pos 1 }, length_holds d _ (lower_within (ends (root_of n) (root_up_of n)) (root_order n)))

@@ -22,7 +22,7 @@ flat_map_range_more f old n = flat_map_more f old (range_with_len 0 n) n ∙ ap 
 abbrev pub joined : (ℕ → List ℕ) → ℕ → List ℕ
 joined f n = flat_map f (range_with_len 0 n)
 
-joined-more : (f : ℕ → List ℕ) (n : ℕ) → joined f n ++ f n ≡ joined f (suc n)
+pub joined-more : (f : ℕ → List ℕ) (n : ℕ) → joined f n ++ f n ≡ joined f (suc n)
 joined-more f n =
     flat_map_range_more f [] n ∙ ap (λ (k : ℕ). flat_map f (range_with_len 0 k)) (let next : n + 1 ≡ suc n = omega arith in next)
 

@@ -53,7 +53,7 @@ oneway-from_state None k n has = absurd (omega (arith, has.1))
 
 -- ---- those of a model
 
-abbrev numbers_at : Lists → ℕ → List ℕ
+abbrev pub numbers_at : Lists → ℕ → List ℕ
 numbers_at m n = state_numbers (first_of_restraint m n) (restraint_at m n).kind
 
 next-first : (m : Lists) (n : ℕ) → n < length m.restraints →

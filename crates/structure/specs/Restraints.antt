@@ -1,5 +1,5 @@
 -- Where the members of a model's restraints stand among those of its structure, and which of them have states.
-use Rattle.std.specs.Prelude.{◌≡◌, ℕ, [], ◌+◌, List, length, slice_index_or, take, drop, None}
+use Rattle.std.specs.Prelude.{ℕ, [], ◌+◌, List, length, slice_index_or, take, drop, None}
 use Rattle.std.specs.List.{flat_map, range_with_len}
 use Rattle.member_set.specs.declared.members.Built.{Built}
 use Rattle.member_set.specs.declared.members.Member.{Member}
@@ -29,7 +29,3 @@ members_of_restraint m b n = take (restraint_member_count (restraint_at m n).kin
 -- the number of each restraint's member, as often as the member has states, in the members' order
 abbrev pub unilateral_of : Lists → List ℕ
 unilateral_of m = flat_map (λ n. state_numbers (first_of_restraint m n) (restraint_at m n).kind) (range_with_len 0 (length m.restraints))
-
--- no restraint is a contact, which is open or closed: no member of one has a state
-abbrev pub HasNoContacts : Lists → Type 0
-HasNoContacts m = unilateral_of m ≡ []

@@ -1,4 +1,4 @@
-ghost use Rattle.structure.specs.Laws.{StructuresHaveStates};
+ghost use Rattle.structure.specs.Laws.{LengthsExist, StatesAreCounted, StatesAreInOrder, StructuresHaveStates};
 ghost use Rattle.structure.specs.Numbers.{StructuresHoldNumbers};
 ghost use Rattle.structure.specs.Structure.{ModelsHaveTheirMembers, StructuresAreStiff};
 
@@ -21,4 +21,15 @@ pub fn structures_hold_numbers()
 /// The members of a structure that have states are those that hold one way, whatever the initial deformations of a case are.
 pub fn structures_have_states()
     ensures { StructuresHaveStates }
+{}
+
+/// Where the states of a model's restraints stand: one after the other, in the order of the restraints and of their members.
+pub fn states_of_restraints()
+    ensures counted { StatesAreCounted }
+    ensures in_order { StatesAreInOrder }
+{}
+
+/// Each way has a length within the enclosure of its length.
+pub fn lengths_exist()
+    ensures { LengthsExist }
 {}

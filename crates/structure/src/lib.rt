@@ -14,7 +14,6 @@ pub use building::build;
 pub use elements::{element_member_count, element_members};
 pub use fault::BuildFault;
 pub use laws::{
-    models_have_their_members, structures_are_stiff, structures_have_states,
-    structures_hold_numbers,
+    lengths_exist, models_have_their_members, states_of_restraints, structures_are_stiff,
+    structures_have_states, structures_hold_numbers,
 };
-pub use restraints::has_no_contacts;

@@ -1,11 +1,11 @@
-ghost use Rattle.std.specs.Prelude.{◌≡◌, ◌↔◌, ◌+◌, ◌*◌, ◌<◌, ◌≤◌, ◌++◌, ◌^◌, length, replicate, IfOk, IsTrue, OnOk, All};
+ghost use Rattle.std.specs.Prelude.{◌≡◌, ◌+◌, ◌*◌, ◌<◌, ◌≤◌, ◌++◌, ◌^◌, length, replicate, IfOk, OnOk, All};
 ghost use Rattle.std.specs.List.{flat_map};
 ghost use Rattle.model_types.specs.MemberCounts.{restraint_member_count};
 ghost use Rattle.model_types.specs.Ranges.{KindInForm};
 ghost use Rattle.restraint_law.specs.Restraints.{restraint_members};
 ghost use Rattle.restraint_law.specs.States.{state_numbers};
 ghost use Rattle.structure.specs.Enclosure.{HoldsRestraint};
-ghost use Rattle.structure.specs.Restraints.{HasNoContacts, unilateral_of};
+ghost use Rattle.structure.specs.Restraints.{unilateral_of};
 
 use crate::elements::element_member_count;
 use member_set::Member;
@@ -51,14 +51,6 @@ pub fn unilateral(alloc: Global, m: &Model) -> Result<Vec<u32>, AllocError>
         first += r.kind.member_count() as u32;
     }
     Ok(numbers)
-}
-
-/// Whether no restraint of a model is a contact, which is open or closed: no member of one has a state.
-pub fn has_no_contacts(alloc: Global, m: &Model) -> Result<bool, AllocError>
-    ensures { IfOk result (λ none. IsTrue none ↔ HasNoContacts m.now) }
-{
-    let numbers = unilateral(alloc, m)?;
-    Ok(numbers.is_empty())
 }
 
 /// Appends the numbers of a restraint's members, the first of which is `first`, each as often as it has states.
