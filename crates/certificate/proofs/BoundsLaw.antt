@@ -23,7 +23,7 @@ use Rattle.certificate.specs.Bounds.{IsDefiniteStiffness, residual_at, residual_
 use Rattle.certificate.proofs.BoundsLemmas.{ordered}
 
 -- an outcome that is there is that of the interval found
-found_back : (o : Outcome) → IsOk o → o ≡ Ok (found o)
+pub found_back : (o : Outcome) → IsOk o → o ≡ Ok (found o)
 found_back (Ok e) there = refl
 found_back (Err fault) there = absurd (cc)
 
@@ -71,10 +71,10 @@ both_false true b is = absurd (false≢true (sym is))
 both_false false b is = (refl, is)
 
 -- where a test holds nowhere below n, it doesn't at k
-not_at : (n : ℕ) (test : ℕ → Bool) (k : ℕ) → any_below n test ≡ false → k < n → test k ≡ false
+pub not_at : (n : ℕ) (test : ℕ → Bool) (k : ℕ) → any_below n test ≡ false → k < n → test k ≡ false
 not_at n test k none inside = false_from_ne_true (test k) (λ here. false≢true (sym none ∙ any_below-here n test k inside here))
 
-there : (o : Outcome) → is_err o ≡ false → IsOk o
+pub there : (o : Outcome) → is_err o ≡ false → IsOk o
 there (Ok e) is = refl
 there (Err fault) is = absurd (false≢true (sym is))
 
@@ -96,24 +96,24 @@ exist s u lambda none =
       steady = λ k inside. below _ _ (not_at _ (λ i. int_le (pos (2 ^ 60)) (force_radius s u lambda i)) k from_radius.1 inside);
     }
 
-abbrev by_tests : Bool → Enclosure → Result Enclosure Wide
+abbrev pub by_tests : Bool → Enclosure → Result Enclosure Wide
 by_tests fails own = if fails then Err (record {}) else Ok own
 
 by_test : (fails : Bool) (own e : Enclosure) → by_tests fails own ≡ Ok e → (fails ≡ false) × (own ≡ e)
 by_test true own e is = absurd (cc)
 by_test false own e is = (refl, cc)
 
-listed_at : (n : ℕ) (f : ℕ → Ends) (k : ℕ) → k < n → slice_index_or (listed n f) k nothing ≡ f k
-listed_at n f k inside = get_or-map-range_with_len f 0 n k k nothing inside (omega arith)
+pub listed_at : {X : Type 0} (none : X) (n : ℕ) (f : ℕ → X) (k : ℕ) → k < n → slice_index_or (listed n f) k none ≡ f k
+listed_at none n f k inside = get_or-map-range_with_len f 0 n k k none inside (omega arith)
 
 own_bounds : (s : System) (u : List ℤ) (lambda : ℤ) → HasBounds s u lambda → AreBounds s u lambda (enclosure_of s u lambda)
 own_bounds s u lambda has =
     record {
       exist = has;
       one_displacement_each = length-map-range_with_len _ 0 (row_count s.structure);
-      displacement = λ row inside. listed_at (row_count s.structure) _ row inside;
+      displacement = λ row inside. listed_at nothing (row_count s.structure) _ row inside;
       one_force_each = length-map-range_with_len _ 0 (length s.structure.members);
-      force = λ k inside. listed_at (length s.structure.members) _ k inside;
+      force = λ k inside. listed_at nothing (length s.structure.members) _ k inside;
       no_states = refl;
     }
 

@@ -15,13 +15,11 @@ use Rattle.lists.specs.Results.{and_then}
 use Rattle.member_set.specs.declared.members.Member.{Member}
 use Rattle.member_set.specs.declared.members.Law.{Law}
 use Rattle.member_set.specs.declared.members.Built.{Built}
-use Rattle.member_set.specs.Members.{nothing, member_of, law_of, force_of, row_count, system, AreStiff}
-use Rattle.member_set.specs.Realisation.{Realisation, IsRealisation, IsEquilibrium, fraction, force_fraction, force_in}
+use Rattle.member_set.specs.Members.{nothing, member_of, law_of, force_of}
+use Rattle.member_set.specs.Realisation.{fraction}
 use Rattle.member_set.specs.Interval.{Outcome, found, limited_force, law_force_of, member_force_of, reach_of, points, forces_of, HaveForces}
-use Rattle.int_laws.specs.Matrices.{Vector}
-use Rattle.bound_laws.specs.Nearness.{StiffnessMatrixExists, EquilibriaAreNear, NearIsEnclosed, RoundedRadiiAreEnough, NoNegativeStiffness, IsResidualLength, AreForcesWithin, greater_size, widened, alone, displacement_radius_of, force_radius_of}
-use Rattle.certificate.specs.Bounds.{EnclosesEquilibrium, IsDefiniteStiffness}
-use Rattle.certificate.specs.Widening.{only, IsLimited, AreLimited, AreAroundDisplacements, AreWidened}
+use Rattle.bound_laws.specs.Nearness.{greater_size, widened}
+use Rattle.certificate.specs.Widening.{IsLimited, AreLimited}
 
 -- ---- forces are limited
 
@@ -92,28 +90,3 @@ ceiling_bounded n d q limit one up below is =
 -- an interval that holds a number has its ends in order
 pub ordered : (e : Ends) (n q : ℤ) → Within e (fraction n q) → e.lo ≤ℤ e.hi
 ordered e n q within = le_of_mul q e.lo e.hi within.defined (omega (arith, int_sums, within.at_least, within.at_most))
-
-pub bounds_enclose : StiffnessMatrixExists → EquilibriaAreNear → NearIsEnclosed → RoundedRadiiAreEnough →
-    (b : Built) (laws : List Law) (loads : List Ends) (u : List ℤ) (lambda size radius : ℤ) (old displacements forces : List Ends) (r : Realisation) (exact : Vector) →
-    AreStiff b → pos 1 ≤ℤ lambda → pos 0 ≤ℤ size → length u ≡ row_count b → radius ≡ displacement_radius_of lambda size →
-    AreAroundDisplacements u radius displacements → AreWidened b lambda size old forces →
-    IsRealisation (system b laws loads) r → IsResidualLength r u size → AreForcesWithin r u (λ k. force_of old k) → IsDefiniteStiffness r.stiffness lambda → IsEquilibrium r exact →
-    EnclosesEquilibrium (only displacements forces) r exact
-bounds_enclose matrix_exists equilibria_near near_enclosed rounded_radii_are_enough b laws loads u lambda size radius old displacements forces r exact stiff one size_up one_each radius_is around wider real long within definite balanced =
-    let inside_b = λ (k : ℕ) (inside : k < r.stiffness.members). subst (λ (n : ℕ). k < n) real.stiffness.all_members inside in
-    let up : NoNegativeStiffness b = λ k inside. omega (arith, int_sums, (stiff k inside).at_least) in
-    let matrix = matrix_exists b laws r.stiffness real.stiffness in
-    let near = equilibria_near (system b laws loads) r matrix.0 lambda u exact up real matrix.1 (definite matrix.0 matrix.1) one balanced in
-    let radii = rounded_radii_are_enough b lambda size one size_up
-    (λ k inside.
-    let order = ordered (member_of b k).kappa (r.stiffness.member k).stiffness r.stiffness.denominator (real.stiffness.member_within k (subst (λ (n : ℕ). k < n) (sym real.stiffness.all_members) inside)).stiffness_within in
-    omega (arith, int_sums, order, (stiff k inside).at_least)) in
-    let enclosed = near_enclosed (system b laws loads) r lambda u exact (λ k. force_of old k) size (displacement_radius_of lambda size) (λ k. force_radius_of lambda size (member_of b k).kappa.hi)
-    up real one near size_up long radii within in
-    record {
-      displacement = λ row inside.
-          let wide = around.around row (omega (arith, one_each, real.stiffness.all_rows)) ∙ ap (λ (x : ℤ). widened (alone (get_or u row (pos 0))) x) radius_is in
-          subst (λ (e : Ends). Within e (fraction (exact row) r.stiffness.denominator)) (sym wide) (enclosed.displacement row inside);
-      force = λ k inside.
-          subst (λ (e : Ends). Within e (force_fraction r.stiffness.denominator (force_in r exact k))) (sym (wider.wider k (inside_b k inside))) (enclosed.force k inside);
-    }

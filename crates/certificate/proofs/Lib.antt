@@ -10,3 +10,5 @@ pub mod CheckLemmas
 pub mod LimitLemmas
 pub mod BoundsLaw
 pub mod StateLemmas
+pub mod StatesGiven
+pub mod StatesLaw

@@ -191,10 +191,10 @@ are_settled s bounds pasts closed as_many one_each each sides =
     }
 
 -- the first that lies on neither side
-pub first_between : (s : System) (bounds pasts : List Ends) (number : ℕ) → length pasts ≡ length s.structure.unilateral →
+pub first_unsettled : (s : System) (bounds pasts : List Ends) (number : ℕ) → length pasts ≡ length s.structure.unilateral →
     ((n : ℕ) → n < length s.structure.unilateral → state_past s bounds n ≡ Ok (force_of pasts n)) →
     IsFirst (length pasts) (λ n. judged (force_of pasts n) ≡ None) number → IsFirst (length s.structure.unilateral) (λ n. IsBetween (state_past s bounds n)) number
-first_between s bounds pasts number as_many each first =
+first_unsettled s bounds pasts number as_many each first =
     let inside : number < length s.structure.unilateral = rw (← as_many) first.in_range in
     record {
       in_range = inside;

@@ -1,21 +1,18 @@
-ghost use Rattle.std.specs.Prelude.{◌≡◌, ℕ, ◌^◌, ◌<◌, ◌≤◌, List, length, slice_index_or, unsigned_abs, ℤ, pos, ◌≤ℤ◌, ◌<ℤ◌, IfOk, IfErr, OnOk, OnErr};
-ghost use Rattle.flex_interval.specs.Ends.{Ends};
-ghost use Rattle.member_set.specs.Members.{IsSystem, HasStates, IsModerate, row_count, member_of, force_of, nothing, system, AreStiff};
-ghost use Rattle.member_set.specs.Realisation.{Realisation, IsRealisation, IsEquilibrium};
-ghost use Rattle.member_set.specs.Interval.{HaveForces, forces_of, residual_of};
-ghost use Rattle.int_laws.specs.Matrices.{Vector};
-ghost use Rattle.bound_laws.specs.Nearness.{IsResidualLength, AreForcesWithin, widened, alone, force_radius_of};
-ghost use Rattle.certificate.specs.Bounds.{IsDefiniteStiffness, HasResiduals, sum_of_squares, AreBounds, HasNoBounds, EnclosesEquilibrium, residual_length};
+ghost use Rattle.std.specs.Prelude.{◌≡◌, ◌^◌, ◌<◌, ◌≤◌, length, ℤ, pos, ◌≤ℤ◌, ◌<ℤ◌, IfOk, IfErr, OnOk, OnErr};
+ghost use Rattle.member_set.specs.Members.{IsSystem, IsModerate, row_count, system, AreStiff};
+ghost use Rattle.member_set.specs.Interval.{HaveForces, forces_of};
+ghost use Rattle.bound_laws.specs.Nearness.{widened};
+ghost use Rattle.certificate.specs.Bounds.{HasResiduals, sum_of_squares, AreBounds, HasNoBounds, residual_length};
 ghost use Rattle.certificate.specs.Widening.{AreLimited, AreWidened, AreAroundDisplacements, IsTooUnsteady, enclosure, only};
-ghost use Rattle.certificate.specs.States.{AreBoundsInStates, HoldsStates, TellsFault};
+ghost use Rattle.lists.specs.Results.{Gives};
+ghost use Rattle.certificate.specs.States.{AreBoundsInStates, TellsFault, states_around, told};
 
 use crate::fault::EncloseFault;
 use crate::radii::{displacement_radius, force_radius, plus_square, root_of_squares, widened};
 use crate::states::{hold_forces, judge_states, put_pasts};
-use bound_laws::equilibria_are_near;
 use flex_interval::{Iv, Wide, point};
 use lists::Sequence;
-use member_set::{Built, Law, intervals_hold, member_forces, residual_from};
+use member_set::{Built, Law, member_forces, residual_from};
 use std::alloc::Global;
 
 /// Bounds of every equilibrium of a structure under loads.
@@ -43,14 +40,12 @@ pub fn enclose(
     lambda: i128,
 ) -> Result<Enclosure, EncloseFault>
     requires system { IsSystem (system b.now laws.now loads.now) }
-    requires states { HasStates b.now laws.now }
     requires one_displacement_each { length u.now ≡ row_count b.now }
     requires moderate { IsModerate u.now }
     requires stiff { AreStiff b.now }
     requires positive { pos 1 ≤ℤ lambda }
+    ensures given { Gives (λ e. e) told (states_around (system b.now laws.now loads.now) u.now lambda) result }
     ensures bounds { IfOk result (λ e. AreBoundsInStates (system b.now laws.now loads.now) u.now lambda e) }
-    ensures encloses { IfOk result (λ e. (r : Realisation) (exact : Vector) → IsRealisation (system b.now laws.now loads.now) r →
-        IsDefiniteStiffness r.stiffness lambda → IsEquilibrium r exact → EnclosesEquilibrium e r exact × HoldsStates b.now e r exact) }
     ensures fault { IfErr result (TellsFault (system b.now laws.now loads.now) u.now lambda) }
 {
     let mut displacements = vec![in alloc; point(0); u.len()]?;
@@ -88,7 +83,6 @@ fn put_enclosure(
     closed: &mut [bool],
 ) -> Result<(), EncloseFault>
     requires system { IsSystem (system b.now laws.now loads.now) }
-    requires states { HasStates b.now laws.now }
     requires one_displacement_each { length u.now ≡ row_count b.now }
     requires moderate { IsModerate u.now }
     requires stiff { AreStiff b.now }
@@ -98,12 +92,8 @@ fn put_enclosure(
     requires one_past_each { length pasts.old ≡ length b.now.unilateral }
     requires one_state_each { length closed.old ≡ length b.now.unilateral }
     ensures bounds { OnOk result (AreBoundsInStates (system b.now laws.now loads.now) u.now lambda (enclosure displacements.new forces.new closed.new)) }
-    ensures encloses { OnOk result ((r : Realisation) (exact : Vector) → IsRealisation (system b.now laws.now loads.now) r →
-        IsDefiniteStiffness r.stiffness lambda → IsEquilibrium r exact →
-        EnclosesEquilibrium (enclosure displacements.new forces.new closed.new) r exact × HoldsStates b.now (enclosure displacements.new forces.new closed.new) r exact) }
     ensures fault { IfErr result (TellsFault (system b.now laws.now loads.now) u.now lambda) }
 {
-    intervals_hold();
     put_bounds(b, laws, loads, u, lambda, displacements, forces)?;
     put_pasts(b, laws, displacements, pasts)?;
     judge_states(pasts, closed)?;
@@ -129,11 +119,8 @@ fn put_bounds(
     requires one_bound_each { length displacements.old ≡ row_count b.now }
     requires one_force_each { length forces.old ≡ length b.now.members }
     ensures bounds { OnOk result (AreBounds (system b.now laws.now loads.now) u.now lambda (only displacements.new forces.new)) }
-    ensures encloses { OnOk result ((r : Realisation) (exact : Vector) → IsRealisation (system b.now laws.now loads.now) r →
-        IsDefiniteStiffness r.stiffness lambda → IsEquilibrium r exact → EnclosesEquilibrium (only displacements.new forces.new) r exact) }
     ensures wide { OnErr result (HasNoBounds (system b.now laws.now loads.now) u.now lambda) }
 {
-    equilibria_are_near();
     let size = residual_length(b, laws, loads, u, forces)?;
     widen_displacements(u, displacement_radius(lambda, size)?, displacements);
     widen_forces(b, lambda, size, forces)
@@ -152,16 +139,13 @@ fn residual_length(
     requires moderate { IsModerate u.now }
     requires one_force_each { length forces.old ≡ length b.now.members }
     ensures forces { OnOk result (HaveForces b.now (forces_of b.now laws.now u.now) forces.new) }
-    ensures forces_within { OnOk result ((r : Realisation) → IsRealisation (system b.now laws.now loads.now) r → AreForcesWithin r u.now (λ k. force_of forces.new k)) }
     ensures residuals { OnOk result (HasResiduals (system b.now laws.now loads.now) u.now) }
     ensures short { OnOk result (sum_of_squares (system b.now laws.now loads.now) u.now <ℤ pos (2 ^ 126)) }
     ensures value { IfOk result (λ size. size ≡ residual_length (system b.now laws.now loads.now) u.now) }
     ensures not_negative { IfOk result (λ size. pos 0 ≤ℤ size) }
     ensures bounded { IfOk result (λ size. size ≤ℤ pos (2 ^ 63)) }
-    ensures is_length { IfOk result (λ size. (r : Realisation) → IsRealisation (system b.now laws.now loads.now) r → IsResidualLength r u.now size) }
     ensures wide { OnErr result ((lambda : ℤ) → HasNoBounds (system b.now laws.now loads.now) u.now lambda) }
 {
-    equilibria_are_near();
     member_forces(b, laws, u, forces)?;
     let mut sum = 0;
     for row in 0..loads.len() {

@@ -17,5 +17,5 @@ mod states;
 pub use bounds::{Enclosure, enclose};
 pub use check::{Verdict, check_definite};
 pub use fault::EncloseFault;
-pub use laws::{bounds_are_limited, bounds_hold};
+pub use laws::{bounds_are_limited, bounds_hold, states_are_limited, states_hold};
 pub use space::CheckSpace;

@@ -63,7 +63,6 @@ pub fn plus_square(sum: u128, e: Iv) -> Result<u128, Wide>
 pub fn root_of_squares(sum: u128) -> i128
     requires { sum < 2 ^ 126 }
     ensures value { result ≡ root_up_of (pos sum) }
-    ensures enough { pos sum ≤ℤ (result *ℤ result) }
     ensures not_negative { pos 0 ≤ℤ result }
     ensures bounded { result ≤ℤ pos (2 ^ 63) }
 {

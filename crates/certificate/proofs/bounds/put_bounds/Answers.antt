@@ -5,7 +5,7 @@ use Rattle.flex_interval.specs.Ends.{Ends}
 use Rattle.member_set.specs.Members.{member_of, system}
 use Rattle.certificate.specs.Bounds.{force_radius, far, unsteady}
 use Rattle.bound_laws.specs.Nearness.{widened, alone, displacement_radius_of, force_radius_of}
-use Rattle.certificate.proofs.BoundsLemmas.{found_is, found_ok, forces_limited, bounds_enclose}
+use Rattle.certificate.proofs.BoundsLemmas.{found_is, found_ok, forces_limited}
 use Rattle.certificate.proofs.bounds.put_bounds.Goals as goal
 
 pub returns-in_err-size-clause-wide : goal.returns-in_err-size-clause-wide
@@ -16,23 +16,6 @@ returns-in_err-size-clause-wide c =
 pub widen_forces-requires-clause-limited : goal.widen_forces-requires-clause-limited
 widen_forces-requires-clause-limited c =
     forces_limited c.args.b.now c.args.laws.now c.args.u.now c.residual_length.new.forces c.in_ok-size.ensures.forces
-
-pub returns-clause-encloses : goal.returns-clause-encloses
-returns-clause-encloses c =
-    let size = c.in_ok-size.size in
-    let size_fits : FitsSigned w128 c.in_ok-size.size = search rules in
-    let radius_fits : FitsSigned w128 c.in_ok-displacement_radius.field-0 = search rules in
-    let widened = rw (to_z-of_z c.ranges.lambda, to_z-of_z size_fits) at c.widen_forces.ensures.widened in
-    let around = rw (to_z-of_z radius_fits) at c.widen_displacements.ensures in
-    let radius = rw (to_z-of_z c.ranges.lambda, to_z-of_z size_fits) at c.in_ok-displacement_radius.ensures.value in
-    on_ok_weaker c.widen_forces.result
-    (λ wider r exact real definite balanced.
-    bounds_enclose c.equilibria_are_near.ensures.matrix c.equilibria_are_near.ensures.near c.equilibria_are_near.ensures.enclosed c.equilibria_are_near.ensures.radii
-    c.args.b.now c.args.laws.now c.args.loads.now c.args.u.now c.args.lambda size c.in_ok-displacement_radius.field-0
-    c.residual_length.new.forces c.widen_displacements.new.displacements c.widen_forces.new.forces r exact
-    c.requires.stiff c.requires.positive c.in_ok-size.ensures.not_negative c.requires.one_displacement_each radius around wider
-    real (c.in_ok-size.ensures.is_length r real) (c.in_ok-size.ensures.forces_within r real) definite balanced)
-    widened
 
 pub returns-clause-wide : goal.returns-clause-wide
 returns-clause-wide c =

@@ -3,7 +3,7 @@ use Rattle.std.specs.Prelude.{IsOk}
 use Rattle.std.proofs.lemmas.Result.{err_from_is_err_and}
 use Rattle.member_set.specs.Members.{system}
 use Rattle.member_set.specs.Interval.{Outcome}
-use Rattle.certificate.proofs.StateLemmas.{are_settled, first_between, states_enclose}
+use Rattle.certificate.proofs.StateLemmas.{are_settled, first_unsettled}
 use Rattle.certificate.proofs.bounds.put_enclosure.Goals as goal
 
 pub returns-in_err-put_bounds-clause-fault : goal.returns-in_err-put_bounds-clause-fault
@@ -37,7 +37,7 @@ returns-in_err-judge_states-clause-fault c =
       outer = c.put_bounds.new.forces;
       are = rw (to_z-of_z c.ranges.lambda) at c.in_ok-put_bounds.ensures.bounds;
       reaches = λ n inside. subst (λ (o : Outcome). IsOk o) (sym (each n inside)) refl;
-      first = first_between (system c.args.b.now c.args.laws.now c.args.loads.now) c.put_bounds.new.displacements c.put_pasts.new.pasts unsettled.0
+      first = first_unsettled (system c.args.b.now c.args.laws.now c.args.loads.now) c.put_bounds.new.displacements c.put_pasts.new.pasts unsettled.0
           c.in_ok-put_pasts.ensures.one_each each unsettled.2;
     })
 
@@ -50,12 +50,3 @@ returns-clause-bounds c =
           c.in_ok-put_pasts.ensures.one_each c.in_ok-judge_states.ensures.one_each (c.in_ok-put_pasts.ensures.pasts c.args.loads.now) c.in_ok-judge_states.ensures.states;
       forces = c.hold_forces.ensures;
     }
-
-pub returns-clause-encloses : goal.returns-clause-encloses
-returns-clause-encloses c = λ r exact real definite balanced.
-    let encloses = rw (to_z-of_z c.ranges.lambda) at c.in_ok-put_bounds.ensures.encloses in
-    let settled = are_settled (system c.args.b.now c.args.laws.now c.args.loads.now) c.put_bounds.new.displacements c.put_pasts.new.pasts c.judge_states.new.closed
-    c.in_ok-put_pasts.ensures.one_each c.in_ok-judge_states.ensures.one_each (c.in_ok-put_pasts.ensures.pasts c.args.loads.now) c.in_ok-judge_states.ensures.states in
-    states_enclose c.intervals_hold.ensures.reaches c.intervals_hold.ensures.pasts (system c.args.b.now c.args.laws.now c.args.loads.now)
-    c.put_bounds.new.displacements c.put_bounds.new.forces c.hold_forces.new.forces c.judge_states.new.closed r exact
-    c.requires.system.built c.requires.states c.requires.stiff real settled c.hold_forces.ensures (encloses r exact real definite balanced)

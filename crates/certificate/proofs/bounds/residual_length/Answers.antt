@@ -1,14 +1,11 @@
-use Rattle.std.proofs.Common.{rules, ◌≡◌, ℕ, ◌<◌, ◌⊎◌, inl, inr, sym, ◌∙◌, ap, refl, subst, arith, FitsSigned, to_z-of_z, ℤ, pos, ◌*ℤ◌, ◌≤ℤ◌, ◌<ℤ◌, ◌^◌}
+use Rattle.std.proofs.Common.{rules, ◌≡◌, ℕ, ◌<◌, ◌⊎◌, inl, inr, sym, ◌∙◌, ap, refl, subst, arith, FitsSigned, to_z-of_z, ℤ, pos, ◌<ℤ◌, ◌^◌}
 use Rattle.std.specs.Prelude.{IsOk, IsErr}
 use Rattle.std.specs.Int.{w128}
 use Rattle.std.proofs.lemmas.Result.{err_from_is_err_and}
 use Rattle.int_laws.specs.Sums.{sum_below}
 use Rattle.int_laws.proofs.Sums.{int_sums}
 use Rattle.int_laws.specs.Root.{root_up_of}
-use Rattle.flex_interval.specs.Ends.{Ends}
-use Rattle.flex_interval.specs.Fraction.{Within}
 use Rattle.member_set.specs.Members.{row_count, system}
-use Rattle.member_set.specs.Realisation.{displaced, exact_residual}
 use Rattle.member_set.specs.Interval.{Outcome, forces_of, residual_of}
 use Rattle.certificate.specs.Bounds.{residual_at, no_residual, long}
 use Rattle.certificate.proofs.BoundsLemmas.{found_is, found_ok, square_of, sum_more, sum_too_long}
@@ -54,33 +51,10 @@ loop-row-preserved c =
             | inl less ↦ c.loop-row.invariant.residuals j less
             | inr same ↦ subst (λ (i : ℕ). IsOk (residual i)) (sym same) (found_ok (residual k) e (sym at))
           ];
-      within = λ r real j below.
-          let holds = λ (i : ℕ) (x : Ends). Within x (exact_residual r (displaced r.stiffness.denominator c.args.u.now) i) in
-          let side : (j < k) ⊎ (j ≡ k) = search arith in
-          elim side [
-            | inl less ↦ c.loop-row.invariant.within r real j less
-            | inr same ↦
-                let own : holds k e = c.in_ok-residual_from.ensures.within c.args.laws.now r (displaced r.stiffness.denominator c.args.u.now) real (c.in_ok-member_forces.ensures.within c.args.loads.now r real) in
-                subst (λ (i : ℕ). holds i (residual_at (system c.args.b.now c.args.laws.now c.args.loads.now) c.args.u.now i)) (sym same) (subst (holds k) (sym here) own)
-          ];
     }
 
-pub returns-clause-forces_within : goal.returns-clause-forces_within
-returns-clause-forces_within c = λ r real. c.in_ok-member_forces.ensures.within c.args.loads.now r real
-
-pub returns-clause-is_length : goal.returns-clause-is_length
-returns-clause-is_length c = λ r real.
-    let size = c.root_of_squares.result in
-    let fits : FitsSigned w128 c.root_of_squares.result = search rules in
-    let residual = residual_at (system c.args.b.now c.args.laws.now c.args.loads.now) c.args.u.now in
-    let done : c.loop-row.row ≡ r.stiffness.rows = omega (arith, c.requires.system.one_load_each, real.stiffness.all_rows) in
-    let sum = subst (λ (n : ℕ). pos c.loop-row.sum ≡ sum_below n (λ row. square_of (residual row))) done c.loop-row.invariant.sum in
-    let enough = subst (λ (z : ℤ). z ≤ℤ (size *ℤ size)) sum c.root_of_squares.ensures.enough in
-    rw (to_z-of_z fits)
-    (c.equilibria_are_near.ensures.length r c.args.u.now residual size (λ row inside. c.loop-row.invariant.within r real row (omega (arith, done, inside))) enough)
-
 pub loop-row-init : goal.loop-row-init
-loop-row-init c = record { short = omega arith; sum = refl; residuals = λ row below. absurd (omega arith); within = λ r real row below. absurd (omega arith) }
+loop-row-init c = record { short = omega arith; sum = refl; residuals = λ row below. absurd (omega arith) }
 
 pub returns-clause-residuals : goal.returns-clause-residuals
 returns-clause-residuals c = λ row below. c.loop-row.invariant.residuals row (omega (arith, c.requires.system.one_load_each))

@@ -1,8 +1,6 @@
 use Rattle.std.proofs.Common.{◌≡◌, ℕ, ◌<◌, ◌^◌, pos, ◌*ℤ◌}
 use Rattle.std.specs.Prelude.{IsOk}
 use Rattle.int_laws.specs.Sums.{sum_below}
-use Rattle.flex_interval.specs.Fraction.{Within}
-use Rattle.member_set.specs.Realisation.{Realisation, IsRealisation, displaced, exact_residual}
 use Rattle.member_set.specs.Interval.{residual_of}
 use Rattle.bound_laws.specs.Nearness.{greater_size}
 use Rattle.certificate.specs.Bounds.{residual_at}
@@ -15,6 +13,4 @@ invariant-loop-row l =
       short : l.sum < 2 ^ 126;
       sum : pos l.sum ≡ sum_below l.row (λ row. greater_size (residual_at (system l.b l.laws l.loads) l.u row) *ℤ greater_size (residual_at (system l.b l.laws l.loads) l.u row));
       residuals : (row : ℕ) → row < l.row → IsOk (residual_of (system l.b l.laws l.loads) l.u row);
-      within : (r : Realisation) → IsRealisation (system l.b l.laws l.loads) r → (row : ℕ) → row < l.row →
-          Within (residual_at (system l.b l.laws l.loads) l.u row) (exact_residual r (displaced r.stiffness.denominator l.u) row);
     }
