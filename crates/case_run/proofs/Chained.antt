@@ -1,6 +1,6 @@
 -- What the steps of an analysis give, put together to the answers as a function of the model.
-use Rattle.std.specs.Prelude.{is_err, IsErr, IfOk, IfSome, MatchResult, replicate}
-use Rattle.std.proofs.Common.{◌≡◌, ℕ, zero, suc, ◌+◌, ◌<◌, ◌≤◌, inl, inr, refl, sym, ◌∙◌, ap, subst, arith, Option, Some, None, Result, Ok, Err, List, [], ◌∷◌, ◌++◌, length, ℤ, pos}
+use Rattle.std.specs.Prelude.{is_err, is_none, option_map, if◌then◌else◌, Bool, true, false, ◌⊎◌, IsErr, IfSome, replicate}
+use Rattle.std.proofs.Common.{◌≡◌, ℕ, zero, suc, ◌+◌, ◌<◌, ◌≤◌, inl, inr, refl, sym, ◌∙◌, ap, subst, arith, Option, Some, None, Result, Ok, Err, List, [], ◌∷◌, ◌++◌, length, ℤ}
 use Rattle.std.proofs.lemmas.Bool.{cases_lt}
 use Rattle.std.proofs.lemmas.List.{length-replicate, get_or-replicate}
 use Rattle.std.proofs.lemmas.List.FromFn.{map-range_with_len_more}
@@ -18,41 +18,35 @@ use Rattle.model_types.specs.declared.ids.ElementId.{ElementId}
 use Rattle.structure.specs.Structure.{model_members, structure_of}
 use Rattle.structure.specs.declared.fault.BuildFault.{BuildFault}
 use Rattle.structure.specs.declared.fault.BuildFault.TheVariants as builds
-use Rattle.assembly.specs.Stiffness.{NamesFirstWide, middle, radius, wide_row, matrices_of}
+use Rattle.member_set.specs.States.{under}
+use Rattle.load_vectors.specs.Loads.{AreLoads, IsFirstWideLoad}
+use Rattle.certificate.specs.Bounds.{bounds_around}
+use Rattle.certificate.specs.States.{Unbounded, too_wide, unsettled, reach_fails, state_at, first_between, in_states, settled, states_around}
+use Rattle.lists.proofs.SearchLemmas.{Finds, first_below-finds}
+use Rattle.assembly.specs.Stiffness.{NamesFirstWide, matrices_of}
 use Rattle.assembly.specs.declared.fault.AssembleFault.{AssembleFault}
 use Rattle.assembly.specs.declared.fault.AssembleFault.TheVariants as assemblies
-use Rattle.load_vectors.specs.Loads.{IsFirstWideLoad, loads_of}
-use Rattle.load_vectors.specs.declared.fault.LoadFault.{LoadFault}
-use Rattle.load_vectors.specs.declared.fault.LoadFault.TheVariants as loads
 use Rattle.sym_blocks.specs.Matrix.{Matrix, node_count, entry as block_entry}
 use Rattle.cholesky_laws.specs.Recurrence.{scaled_stiffness}
 use Rattle.factor.specs.Scalar.{IsBreakdown}
 use Rattle.factor.specs.declared.fault.ScalarFault.{ScalarFault}
 use Rattle.factor.specs.declared.fault.ScalarFault.TheVariants as factors
 use Rattle.factor_data.specs.Columns.{ColumnLists, factor_entry}
-use Rattle.solve.specs.Refinement.{Problem, problem, IsTooWide}
-use Rattle.solve.specs.Turns.{turns_of}
-use Rattle.solve.specs.declared.fault.SolveFault.{SolveFault}
-use Rattle.solve.specs.declared.fault.SolveFault.TheVariants as solutions
-use Rattle.certificate.specs.Bounds.{HasNoBounds, bounds_around}
 use Rattle.certificate.specs.Checker.{test_of, test_by, margin_by, IsVerdict}
 use Rattle.certificate.specs.declared.bounds.Enclosure.{Enclosure}
 use Rattle.certificate.specs.declared.check.Verdict.TheVariants.{Yes, No}
-use Rattle.certificate.specs.declared.fault.EncloseFault.{EncloseFault}
-use Rattle.certificate.specs.declared.fault.EncloseFault.TheVariants as enclosures
-use Rattle.certificate.specs.States.{TellsFault}
 use Rattle.case_run.specs.declared.fault.CaseFault.{CaseFault}
 use Rattle.case_run.specs.declared.fault.CaseFault.TheVariants.{Because, NoMemory}
-use Rattle.case_run.specs.Causes.{Plan, resting_laws}
 use Rattle.structure.specs.Elements.{element_member_count}
-use Rattle.case_run.specs.Faults.{build_fault, assemble_fault, load_fault, scalar_fault, solve_fault, enclose_fault, reason_told}
-use Rattle.case_run.specs.Answers.{Reason, because, element_reason, matrix_reason, breakdown_reason, margin_reason, load_reason, turns_reason, bounds_reason, factor_at, margin_at, margin_of, Base, base, base_of, enclosure_in, answer_with, answers_of}
+use Rattle.case_run.specs.Faults.{build_fault, assemble_fault, scalar_fault, reason_told}
+use Rattle.load_vectors.specs.Laws.{laws_of}
+use Rattle.case_run.specs.Causes.{Plan}
+use Rattle.case_run.specs.Reasons.{Reason, because, element_reason, matrix_reason, breakdown_reason, margin_reason, load_reason, factor_at}
+use Rattle.case_run.specs.Answers.{margin_at, margin_of, Base, base, base_of, bounds_in, enclosure_in, answer_with, answer_of, answers_of}
 use Rattle.case_run.proofs.Searching.{listed-is}
 use Rattle.case_run.proofs.GivenFactor.{pivot_given, wide_given}
 use Rattle.case_run.proofs.GivenMargin.{yes_given, no_given, test_is}
-use Rattle.case_run.proofs.GivenTurns.{IsOrdered, turns_broken}
-use Rattle.case_run.proofs.GivenBounds.{bounds_broken}
-use Rattle.case_run.proofs.GivenStructure.{structure_broken, loads_broken, matrices_broken}
+use Rattle.case_run.proofs.GivenStructure.{structure_broken, loads_broken, loads_given, matrices_broken}
 
 -- ---- faults
 
@@ -74,31 +68,11 @@ pub tells_matrix : (b : Built) (fault : AssembleFault) → NamesFirstWide b faul
 tells_matrix b (assemblies.Wide row) first = ap (named matrix_reason) (matrices_broken b row first)
 tells_matrix b assemblies.NoMemory first = tt
 
-pub tells_load : (m : Lists) (case : ℕ) (fault : LoadFault) → ((row : ℕ) → fault ≡ loads.Wide row → IsFirstWideLoad m case row) →
-    Tells (named load_reason (loads_of m case)) (load_fault fault)
-tells_load m case (loads.Wide row) first = ap (named load_reason) (loads_broken m case row (first row refl))
-tells_load m case loads.NoMemory first = tt
-
 pub tells_breakdown : (p : Plan) (a : Entries) (shift : ℤ) (fault : ScalarFault) → IsBreakdown (scaled_stiffness a p.order shift) p.order p.parents fault →
     Tells (factor_at p a shift) (scalar_fault fault)
 tells_breakdown p a shift (factors.Pivot node dof) broken = ap (named breakdown_reason) (pivot_given (scaled_stiffness a p.order shift) p.order p.parents node dof broken)
 tells_breakdown p a shift (factors.Wide node) broken = ap (named breakdown_reason) (wide_given (scaled_stiffness a p.order shift) p.order p.parents node broken)
 tells_breakdown p a shift factors.NoMemory broken = tt
-
-pub tells_turns : (p : Problem) (fault : SolveFault) → IsOrdered p → (fault ≡ solutions.Wide → IsTooWide p) →
-    Tells (named (λ _. turns_reason) (turns_of p 8)) (solve_fault fault)
-tells_turns p solutions.Wide ordered wide = ap (named (λ (w : Wide). turns_reason)) (turns_broken p ordered (wide refl))
-tells_turns p solutions.NoMemory ordered wide = tt
-
-pub tells_bounds : (s : System) (u : List ℤ) (lambda : ℤ) (fault : EncloseFault) → s.structure.unilateral ≡ [] → TellsFault s u lambda fault →
-    Tells (named (λ _. bounds_reason) (bounds_around s u lambda)) (enclose_fault fault)
-tells_bounds s u lambda enclosures.Wide free tells =
-    elim tells [
-      | inl none ↦ ap (named (λ (w : Wide). bounds_reason)) (bounds_broken s u lambda none)
-      | inr reach ↦ absurd (omega (arith, reach.inside, ap (λ (xs : List ℕ). length xs) free))
-    ]
-tells_bounds s u lambda (enclosures.State number) free tells = absurd (omega (arith, tells.first.in_range, ap (λ (xs : List ℕ). length xs) free))
-tells_bounds s u lambda enclosures.NoMemory free tells = tt
 
 -- ---- the margin
 
@@ -154,102 +128,62 @@ abbrev from_matrices : Plan → Built → Result (Entries × Entries) Reason →
 from_matrices p b o = and_then o (λ matrices. from_margin b (margin_of p matrices.0 matrices.1))
 
 abbrev from_structure : Plan → Result Built Reason → Result Base Reason
-from_structure p o = and_then o (λ b. from_matrices p b (named matrix_reason (matrices_of b)))
+from_structure p o = and_then o (λ b. from_matrices p b (named matrix_reason (matrices_of (under b []))))
 
 pub base_no_structure : (m : Lists) (p : Plan) (e : Reason) → named element_reason (structure_of m) ≡ Err e → base_of m p ≡ Err e
 base_no_structure m p e is = ap (from_structure p) is
 
 pub base_no_matrices : (m : Lists) (p : Plan) (b : Built) (e : Reason) → named element_reason (structure_of m) ≡ Ok b →
-    named matrix_reason (matrices_of b) ≡ Err e → base_of m p ≡ Err e
+    named matrix_reason (matrices_of (under b [])) ≡ Err e → base_of m p ≡ Err e
 base_no_matrices m p b e structure is = ap (from_structure p) structure ∙ ap (from_matrices p b) is
 
 pub base_by_margin : (m : Lists) (p : Plan) (b : Built) (middles radii : Entries) → named element_reason (structure_of m) ≡ Ok b →
-    named matrix_reason (matrices_of b) ≡ Ok (middles, radii) → base_of m p ≡ from_margin b (margin_of p middles radii)
+    named matrix_reason (matrices_of (under b [])) ≡ Ok (middles, radii) → base_of m p ≡ from_margin b (margin_of p middles radii)
 base_by_margin m p b middles radii structure matrices = ap (from_structure p) structure ∙ ap (from_matrices p b) matrices
 
 pub base_no_margin : (m : Lists) (p : Plan) (b : Built) (middles radii : Entries) (e : Reason) → named element_reason (structure_of m) ≡ Ok b →
-    named matrix_reason (matrices_of b) ≡ Ok (middles, radii) → margin_of p middles radii ≡ Err e → base_of m p ≡ Err e
+    named matrix_reason (matrices_of (under b [])) ≡ Ok (middles, radii) → margin_of p middles radii ≡ Err e → base_of m p ≡ Err e
 base_no_margin m p b middles radii e structure matrices is = base_by_margin m p b middles radii structure matrices ∙ ap (from_margin b) is
 
 pub base_is : (m : Lists) (p : Plan) (b : Built) (middles radii : Entries) (lambda : ℤ) → named element_reason (structure_of m) ≡ Ok b →
-    named matrix_reason (matrices_of b) ≡ Ok (middles, radii) → margin_of p middles radii ≡ Ok lambda → base_of m p ≡ Ok (base b lambda)
+    named matrix_reason (matrices_of (under b [])) ≡ Ok (middles, radii) → margin_of p middles radii ≡ Ok lambda → base_of m p ≡ Ok (base b lambda)
 base_is m p b middles radii lambda structure matrices is = base_by_margin m p b middles radii structure matrices ∙ ap (from_margin b) is
 
-abbrev first_or : Entries → Result (Entries × Entries) Reason → Entries
-first_or k (Ok pair) = pair.0
-first_or k (Err e) = k
-
-only_middle : (b : Built) (wide : Option ℕ) (middles radii : Entries) → named {A = Entries × Entries} matrix_reason (unless wide (middle b, radius b)) ≡ Ok (middles, radii) → middles ≡ middle b
-only_middle b None middles radii is = (sym (ap (first_or (middle b)) is))
-only_middle b (Some row) middles radii is = absurd (cc)
-
--- the factor without a shift is that of the structure's middles
-pub unshifted_there : (p : Plan) (b : Built) (middles : Matrix) (radii : Entries) (r : Result ColumnLists Cause) →
-    named matrix_reason (matrices_of b) ≡ Ok (block_entry middles, radii) → IfOk r (λ f. f.order ≡ p.order) →
-    MatchResult r (λ f. factor_at p (block_entry middles) (pos 0) ≡ Ok (factor_entry f)) (λ cause. factor_at p (block_entry middles) (pos 0) ≡ Err (because cause)) →
-    MatchResult r (λ f. (f.order ≡ p.order) × (factor_at p (middle b) (pos 0) ≡ Ok (factor_entry f))) (λ cause. factor_at p (middle b) (pos 0) ≡ Err (because cause))
-unshifted_there p b middles radii (Ok f) matrices order given =
-    let same = only_middle b (wide_row b) (block_entry middles) radii matrices in
-    (order, subst (λ (k : Entries). factor_at p k (pos 0) ≡ Ok (factor_entry f)) same given)
-unshifted_there p b middles radii (Err cause) matrices order given =
-    let same = only_middle b (wide_row b) (block_entry middles) radii matrices in
-    subst (λ (k : Entries). factor_at p k (pos 0) ≡ Err (because cause)) same given
-
 -- ---- a case
-abbrev from_turns : Built → List Ends → ℤ → Result (List ℤ) Wide → Result Enclosure Reason
-from_turns b loads lambda o = and_then (named (λ _. turns_reason) o) (λ u. named (λ _. bounds_reason) (bounds_around (system b (resting_laws b) loads) u lambda))
 
-abbrev from_factor : Plan → Built → List Ends → ℤ → Result Entries Reason → Result Enclosure Reason
-from_factor p b loads lambda o = and_then o (λ factor. from_turns b loads lambda (turns_of (problem (system b (resting_laws b) loads) [] p.order factor) 8))
+abbrev from_loads : Lists → Plan → ℕ → Base → Result (List Ends) Reason → Result Enclosure Reason
+from_loads m p case shared o = and_then o (λ loads. bounds_in m p (system shared.structure (laws_of m case) loads) shared.lambda)
 
-abbrev from_loads : Plan → Built → ℤ → Result (List Ends) Reason → Result Enclosure Reason
-from_loads p b lambda o = and_then o (λ loads. from_factor p b loads lambda (factor_at p (middle b) (pos 0)))
+pub case_no_loads : (m : Lists) (p : Plan) (case : ℕ) (shared : Base) (row : ℕ) → IsFirstWideLoad m case row → enclosure_in m p case shared ≡ Err (load_reason row)
+case_no_loads m p case shared row first = ap (λ (o : Result (List Ends) ℕ). from_loads m p case shared (named load_reason o)) (loads_broken m case row first)
 
-pub case_no_loads : (m : Lists) (p : Plan) (case : ℕ) (b : Built) (lambda : ℤ) (e : Reason) → named load_reason (loads_of m case) ≡ Err e →
-    enclosure_in m p case (base b lambda) ≡ Err e
-case_no_loads m p case b lambda e is = ap (from_loads p b lambda) is
+pub case_loaded : (m : Lists) (p : Plan) (case : ℕ) (shared : Base) (loads : List Ends) → AreLoads m case loads →
+    enclosure_in m p case shared ≡ bounds_in m p (system shared.structure (laws_of m case) loads) shared.lambda
+case_loaded m p case shared loads loaded = ap (λ (o : Result (List Ends) ℕ). from_loads m p case shared (named load_reason o)) (loads_given m case loads loaded)
 
-at_factor : (m : Lists) (p : Plan) (case : ℕ) (b : Built) (lambda : ℤ) (loads : List Ends) → loads_of m case ≡ Ok loads →
-    enclosure_in m p case (base b lambda) ≡ from_factor p b loads lambda (factor_at p (middle b) (pos 0))
-at_factor m p case b lambda loads loaded = ap (λ (o : Result (List Ends) ℕ). from_loads p b lambda (named load_reason o)) loaded
+-- a number that isn't settled is the first between
+unsettled_of : (wide : Bool) (between : Option ℕ) (e : Enclosure) (number : ℕ) → (if wide then Err too_wide else unless (option_map unsettled between) e) ≡ Err (unsettled number) → between ≡ Some number
+unsettled_of true between e number is = absurd (cc)
+unsettled_of false None e number is = absurd (cc)
+unsettled_of false (Some k) e number is = (let same : k ≡ number = cc in ap (λ (n : ℕ). Some n) same)
 
-pub case_no_factor : (m : Lists) (p : Plan) (case : ℕ) (b : Built) (lambda : ℤ) (loads : List Ends) (e : Reason) → loads_of m case ≡ Ok loads →
-    factor_at p (middle b) (pos 0) ≡ Err e → enclosure_in m p case (base b lambda) ≡ Err e
-case_no_factor m p case b lambda loads e loaded is = at_factor m p case b lambda loads loaded ∙ ap (from_factor p b loads lambda) is
+unsettled_from : (s : System) (o : Result Enclosure Unbounded) (number : ℕ) → and_then o (settled s) ≡ Err (unsettled number) → (o ≡ Err (unsettled number)) ⊎ (number < length s.structure.unilateral)
+unsettled_from s (Err e) number is = inl is
+unsettled_from s (Ok e) number is =
+    inr ((subst (Finds (length s.structure.unilateral) (λ n. is_none (state_at s e.u n))) (unsettled_of (reach_fails s e.u) (first_between s e.u) (in_states s e) number is)
+    (first_below-finds (length s.structure.unilateral) (λ n. is_none (state_at s e.u n)))).in_range)
 
--- the loads and the factor that a case has, and the order of the factor
-pub record HasFactor (m : Lists) (p : Plan) (case : ℕ) (b : Built) (loads : List Ends) (f : ColumnLists) : Type 0 where
-  pub loaded : loads_of m case ≡ Ok loads
-  pub order : f.order ≡ p.order
-  pub factor : factor_at p (middle b) (pos 0) ≡ Ok (factor_entry f)
+not_unsettled : (o : Result Enclosure Wide) (number : ℕ) → named {F = Unbounded} (λ _. too_wide) o ≡ Err (unsettled number) → ⊥
+not_unsettled (Ok e) number is = absurd (cc)
+not_unsettled (Err w) number is = absurd (cc)
 
--- what is solved with it
-abbrev pub solved : Built → List Ends → ColumnLists → Problem
-solved b loads f = problem (system b (resting_laws b) loads) [] f.order (factor_entry f)
-
-at_turns : (m : Lists) (p : Plan) (case : ℕ) (b : Built) (lambda : ℤ) (loads : List Ends) (f : ColumnLists) → HasFactor m p case b loads f →
-    enclosure_in m p case (base b lambda) ≡ from_turns b loads lambda (turns_of (solved b loads f) 8)
-at_turns m p case b lambda loads f has =
-    at_factor m p case b lambda loads has.loaded
-    ∙ ap (from_factor p b loads lambda) has.factor
-    ∙ ap (λ (o : List ℕ). from_turns b loads lambda (turns_of (problem (system b (resting_laws b) loads) [] o (factor_entry f)) 8)) (sym has.order)
-
-pub case_no_turns : (m : Lists) (p : Plan) (case : ℕ) (b : Built) (lambda : ℤ) (loads : List Ends) (f : ColumnLists) (e : Reason) → HasFactor m p case b loads f →
-    named (λ _. turns_reason) (turns_of (solved b loads f) 8) ≡ Err e → enclosure_in m p case (base b lambda) ≡ Err e
-case_no_turns m p case b lambda loads f e has is =
-    at_turns m p case b lambda loads f has
-    ∙ ap (λ (o : Result (List ℤ) Reason). and_then o (λ u. named (λ _. bounds_reason) (bounds_around (system b (resting_laws b) loads) u lambda))) is
-
-pub case_by_bounds : (m : Lists) (p : Plan) (case : ℕ) (b : Built) (lambda : ℤ) (loads : List Ends) (f : ColumnLists) (u : List ℤ) → HasFactor m p case b loads f →
-    turns_of (solved b loads f) 8 ≡ Ok u →
-    enclosure_in m p case (base b lambda) ≡ named (λ _. bounds_reason) (bounds_around (system b (resting_laws b) loads) u lambda)
-case_by_bounds m p case b lambda loads f u has turned = at_turns m p case b lambda loads f has ∙ ap (from_turns b loads lambda) turned
-
-pub case_bounds : (m : Lists) (p : Plan) (case : ℕ) (b : Built) (lambda : ℤ) (loads : List Ends) (f : ColumnLists) (u : List ℤ) (e : Enclosure) →
-    HasFactor m p case b loads f → turns_of (solved b loads f) 8 ≡ Ok u → bounds_around (system b (resting_laws b) loads) u lambda ≡ Ok e →
-    enclosure_in m p case (base b lambda) ≡ Ok e
-case_bounds m p case b lambda loads f u e has turned is =
-    case_by_bounds m p case b lambda loads f u has turned ∙ ap (named (λ (w : Wide). bounds_reason)) is
+-- a state that isn't settled is one of the structure's
+pub unsettled_inside : (s : System) (u : List ℤ) (lambda : ℤ) (number : ℕ) → states_around s u lambda ≡ Err (unsettled number) → number < length s.structure.unilateral
+unsettled_inside s u lambda number is =
+    elim (unsettled_from s (named (λ _. too_wide) (bounds_around s u lambda)) number is) [
+      | inl never ↦ absurd (not_unsettled (bounds_around s u lambda) number never)
+      | inr inside ↦ inside
+    ]
 
 -- ---- all cases
 
@@ -261,6 +195,9 @@ pub answers_by_base : (m : Lists) (p : Plan) (shared : Base) → base_of m p ≡
     answers_of m p ≡ listed (length m.cases) (λ case. answer_with (element_member_count m) (enclosure_in m p case shared))
 answers_by_base m p shared is =
     ap (λ (o : Result Base Reason). listed (length m.cases) (λ (case : ℕ). answer_with (element_member_count m) (and_then o (enclosure_in m p case)))) is
+
+pub no_answers : (m : Lists) (p : Plan) → length m.cases ≡ 0 → answers_of m p ≡ []
+no_answers m p none = ap (λ (n : ℕ). listed n (answer_of m p)) none
 
 all_same : {X : Type 0} (n : ℕ) (x : X) → replicate n x ≡ listed n (λ _. x)
 all_same n x = listed-is x (replicate n x) n (λ _. x) (length-replicate n x) (λ k below. get_or-replicate n k x x below)

@@ -3,9 +3,9 @@
 use Rattle.std.proofs.Common.{◌≡◌, ℕ, Bool, true, false, zero, suc, ◌+◌, ◌*◌, ◌/◌, ◌%◌, ◌^◌, ◌<◌, ◌≤◌, List, [], ◌++◌, length, map, drop, All, refl, sym, ap, ◌∙◌, subst, arith, Option, Some, None, Result, Ok, Err, ℤ, pos, unsigned_abs, length-drop, inl, inr}
 use Rattle.std.proofs.lemmas.Bool.{false≢true, cases_lt}
 use Rattle.std.proofs.lemmas.List.{length-map}
-use Rattle.std.proofs.lemmas.List.Elements.{All-drop, All-map, All-from_get_or}
+use Rattle.std.proofs.lemmas.List.Elements.{All-drop, All-map, All-from_get_or, Contains-get_or}
 use Rattle.std.proofs.lemmas.List.FromFn.{length-map-range_with_len, get_or-map-range_with_len}
-use Rattle.std.specs.Prelude.{slice_index, option_map, nat_lt, int_lt}
+use Rattle.std.specs.Prelude.{slice_index, slice_index_or, option_map, nat_lt, int_lt, if◌then◌else◌}
 use Rattle.std.specs.Option.{option_map_or}
 use Rattle.int_laws.specs.Matrices.{Entries}
 use Rattle.lists.specs.Listed.{listed}
@@ -17,27 +17,38 @@ use Rattle.flex_interval.specs.Ends.{Ends}
 use Rattle.flex_interval.specs.declared.fault.Wide.{Wide}
 use Rattle.member_set.specs.declared.members.Built.{Built}
 use Rattle.member_set.specs.declared.members.Member.{Member}
-use Rattle.member_set.specs.Members.{IsModerate, built_nodes, row_count, system}
-use Rattle.model_types.specs.Fits.{AreAnswersOf, AreModest, FitsModel, IsModest}
+use Rattle.member_set.specs.Members.{System, IsModerate, built_nodes, row_count, system}
+use Rattle.member_set.specs.States.{under}
+use Rattle.model_types.specs.Fits.{AreAnswersOf, AreModest, FitsModel, IsGuess, IsModest}
 use Rattle.model_types.specs.Lists.{Lists}
 use Rattle.model_types.specs.declared.answers.Bounds.{Bounds}
 use Rattle.model_types.specs.declared.answers.CaseAnswer.TheVariants.{Uncertified}
 use Rattle.cholesky_laws.specs.Recurrence.{scaled_stiffness, pivot}
-use Rattle.cholesky_laws.specs.Factor.{factor_of, node_fails, low_pivot, Breakdown, low, too_wide, breakdown_at}
-use Rattle.assembly.specs.Stiffness.{matrices_of, middle, wide_row}
+use Rattle.cholesky_laws.specs.Factor.{factor_of, node_fails, low_pivot, Breakdown, low, too_wide as columns_too_wide, breakdown_at}
+use Rattle.assembly.specs.Stiffness.{matrices_of, wide_row}
 use Rattle.load_vectors.specs.Loads.{loads_of}
 use Rattle.solve.specs.Refinement.{Problem, problem, size_of, forward_side, backward_side}
 use Rattle.solve.specs.Turns.{unless_wide, turn_of, turns_of, moved_at, moved_by, middles_of, scale_of, forward_of, backward_of}
 use Rattle.certificate.specs.declared.bounds.Enclosure.{Enclosure}
-use Rattle.certificate.specs.Bounds.{BoundsAreLimited, HasLimitedEnds, bounds_around, bounds_fail, enclosure_of}
+use Rattle.certificate.specs.Bounds.{HasLimitedEnds, bounds_around, bounds_fail, enclosure_of}
+use Rattle.certificate.specs.States.{Unbounded, too_wide, unsettled, reach_fails, first_between, in_states, settled, states_around, StatesAreLimited}
 use Rattle.certificate.specs.Checker.{margin_by, test_by, row_refused}
 use Rattle.bound_laws.specs.Definiteness.{PassedTestIsProof}
 use Rattle.structure.specs.Elements.{element_at, members_of_element, element_member_count}
+use Rattle.structure.specs.Laws.{StatesAreCounted}
+use Rattle.structure.specs.Restraints.{unilateral_of}
 use Rattle.structure.specs.Structure.{Members, ModelsHaveTheirMembers, element_members, model_members, with_element, then_members, structure_with, structure_of}
-use Rattle.case_run.specs.Answers.{Reason, element_reason, matrix_reason, breakdown_reason, margin_reason, load_reason, turns_reason, bounds_reason, factor_at, margin_at, margin_of, Base, base_of, enclosure_in, answer_with, answer_of, answers_of}
-use Rattle.case_run.specs.Causes.{Plan, resting_laws}
+use Rattle.case_run.specs.Reasons.{Reason, element_reason, matrix_reason, breakdown_reason, margin_reason, load_reason, bounds_reason, factor_at}
+use Rattle.case_run.specs.Answers.{margin_at, margin_of, Base, base_of, unbounded_reason, enclosure_in, answer_with, answer_of, answers_of}
+use Rattle.case_run.specs.Causes.{Plan}
 use Rattle.case_run.specs.Certified.{bounds_of, last_place, shift_of}
+use Rattle.case_run.specs.Contacts.{contacts_of, no_contact, starting_states}
+use Rattle.load_vectors.specs.Laws.{laws_of}
+use Rattle.case_run.specs.Trials.{Trial, trial, trial_in, candidate_under, factor_under, violated_by, solve_reason, search_of}
 use Rattle.case_run.proofs.Searching.{nat_lt-yes, any_at}
+use Rattle.case_run.proofs.Chained.{unsettled_inside}
+use Rattle.case_run.proofs.ContactLemmas.{joined_inside, one_contact_each}
+use Rattle.case_run.proofs.Settled.{IsTried, search_value, search_reason}
 use Rattle.case_run.proofs.SoundnessLaw.{value_before, value_named, margin_definite, is_base, are_around}
 
 -- ---- errors in a chain
@@ -101,11 +112,11 @@ no_structure m (Err k) number is = let same : k ≡ number = cc in ap (λ x. Err
 abbrev made_of : List Member → Members
 made_of members = Ok members
 
--- it has the members of the model, and its nodes
-a_structure : (m : Lists) (made : Members) (b : Built) → between m made ≡ Ok b → (made ≡ Ok b.members) × (built_nodes b ≡ length m.nodes)
+-- it has the members of the model, its nodes and its states
+a_structure : (m : Lists) (made : Members) (b : Built) → between m made ≡ Ok b → (made ≡ Ok b.members) × (built_nodes b ≡ length m.nodes) × (b.unilateral ≡ unilateral_of m)
 a_structure m (Ok members) b is =
     let same : structure_with m members ≡ b = cc in
-    subst (λ (c : Built). (made_of members ≡ Ok c.members) × (built_nodes c ≡ length m.nodes)) same (refl, length-map-range_with_len _ 0 (length m.nodes))
+    subst (λ (c : Built). (made_of members ≡ Ok c.members) × (built_nodes c ≡ length m.nodes) × (c.unilateral ≡ unilateral_of m)) same (refl, length-map-range_with_len _ 0 (length m.nodes), refl)
 a_structure m (Err k) b is = absurd (cc)
 
 -- ---- causes
@@ -121,10 +132,10 @@ element_fits m number is = (wide_element m number (no_structure m (model_members
 row_inside : (row nodes : ℕ) → row < 6 * nodes → (row / 6 < nodes) × (row % 6 < 6)
 row_inside row nodes inside = (omega (arith, inside), omega arith)
 
-matrix_fits : (m : Lists) (b : Built) (row : ℕ) → structure_of m ≡ Ok b → matrices_of b ≡ Err row → FitsReason m (matrix_reason row)
-matrix_fits m b row structure is =
-    let inside = found_below (row_count b) _ row (found_error (wide_row b) _ row is) in
-    let nodes = (a_structure m (model_members m) b structure).1 in
+-- a wide row of the matrix under some states is one of the structure's
+matrix_fits : (m : Lists) (b : Built) (closed : List Bool) (row : ℕ) → built_nodes b ≡ length m.nodes → matrices_of (under b closed) ≡ Err row → FitsReason m (matrix_reason row)
+matrix_fits m b closed row nodes is =
+    let inside = found_below (row_count b) _ row (found_error (wide_row (under b closed)) _ row is) in
     (row_inside row (length m.nodes) (omega (arith, inside, nodes)), refl)
 
 load_fits : (m : Lists) (case row : ℕ) → loads_of m case ≡ Err row → FitsReason m (load_reason row)
@@ -135,7 +146,7 @@ node_inside : (order : List ℕ) (place nodes : ℕ) → IsOrder order → lengt
 node_inside order place nodes ordered count inside = omega (arith, ordered.spread.in_range place inside, count)
 
 named_breakdown : (m : Lists) (node : ℕ) (freedom : Option ℕ) → node < length m.nodes → ((f : ℕ) → freedom ≡ Some f → f < 6) →
-    FitsReason m (breakdown_reason (option_map_or (low node) freedom (too_wide node)))
+    FitsReason m (breakdown_reason (option_map_or (low node) freedom (columns_too_wide node)))
 named_breakdown m node None inside below = (inside, refl)
 named_breakdown m node (Some f) inside below = ((inside, below f refl), refl)
 
@@ -180,38 +191,41 @@ base_fits m p ordered count =
     error_before (FitsReason m) (named element_reason (structure_of m)) _
     (error_named (FitsReason m) element_reason (structure_of m) (element_fits m))
     (λ b reason is_b.
-    error_before (FitsReason m) (named matrix_reason (matrices_of b)) _
-    (error_named (FitsReason m) matrix_reason (matrices_of b) (λ row is. matrix_fits m b row (value_named element_reason (structure_of m) b is_b) is))
+    let nodes = (a_structure m (model_members m) b (value_named element_reason (structure_of m) b is_b)).1 in
+    error_before (FitsReason m) (named matrix_reason (matrices_of (under b []))) _
+    (error_named (FitsReason m) matrix_reason (matrices_of (under b [])) (λ row is. matrix_fits m b [] row nodes is))
     (λ matrices reason _.
     error_before (FitsReason m) (margin_of p matrices.0 matrices.1) _ (margin_fits m p matrices.0 matrices.1 ordered count) (λ lambda reason _ is. absurd (cc)) reason)
     reason)
 
--- and those that a reason of the case's own names
-own_fits : (m : Lists) (p : Plan) (case : ℕ) (shared : Base) → IsOrder p.order → length p.order ≡ length m.nodes →
-    (reason : Reason) → enclosure_in m p case shared ≡ Err reason → FitsReason m reason
-own_fits m p case shared ordered count =
-    error_before (FitsReason m) (named load_reason (loads_of m case)) _
-    (error_named (FitsReason m) load_reason (loads_of m case) (load_fits m case))
-    (λ loads reason _.
-    error_before (FitsReason m) (factor_at p (middle shared.structure) (pos 0)) _ (factor_fits m p (middle shared.structure) (pos 0) ordered count)
-    (λ factor reason _.
-    let s = system shared.structure (resting_laws shared.structure) loads in
-    error_before (FitsReason m) (named (λ _. turns_reason) (turns_of (problem s [] p.order factor) 8)) _
-    (error_named (FitsReason m) (λ _. turns_reason) (turns_of (problem s [] p.order factor) 8) (λ wide is. (tt, refl)))
-    (λ u reason _. error_named (FitsReason m) (λ _. bounds_reason) (bounds_around s u shared.lambda) (λ wide is. (tt, refl)) reason)
-    reason)
-    reason)
+-- ---- a case
 
--- ---- bounds
+-- and those that the reason of a trial names, which are no states
+trial_fits : (m : Lists) (p : Plan) (s : System) (turn : ℕ) (closed : List Bool) → IsOrder p.order → length p.order ≡ length m.nodes → built_nodes s.structure ≡ length m.nodes →
+    (reason : Reason) → trial_in p s turn closed ≡ Err reason → FitsReason m reason
+trial_fits m p s turn closed ordered count nodes =
+    error_before (FitsReason m) (candidate_under p s turn closed) _
+    (error_before (FitsReason m) (factor_under p s.structure closed) _
+    (error_before (FitsReason m) (named matrix_reason (matrices_of (under s.structure closed))) _
+    (error_named (FitsReason m) matrix_reason (matrices_of (under s.structure closed)) (λ row is. matrix_fits m s.structure closed row nodes is))
+    (λ matrices reason _. factor_fits m p matrices.0 (pos 0) ordered count reason))
+    (λ factor reason _. error_named (FitsReason m) (λ _. solve_reason turn) (turns_of (problem s closed p.order factor) 8) (λ wide is. (tt, refl)) reason))
+    (λ u reason _.
+    error_before (FitsReason m) (named (λ _. solve_reason turn) (violated_by s u closed)) _
+    (error_named (FitsReason m) (λ _. solve_reason turn) (violated_by s u closed) (λ wide is. (tt, refl))) (λ violated reason _ is. absurd (cc)) reason)
 
-abbrev HasModestEnds : Ends → Type 0
-HasModestEnds e = IsModest e.lo × IsModest e.hi
+-- a contact is one of a restraint of the model
+contact_inside : (m : Lists) (number : ℕ) → number < length (contacts_of m) → (slice_index_or (contacts_of m) number no_contact).restraint.0 < length m.restraints
+contact_inside m number inside = joined_inside m (length m.restraints) (slice_index_or (contacts_of m) number no_contact) (Contains-get_or (contacts_of m) number no_contact inside)
 
-limited_modest : (es : List Ends) → All HasLimitedEnds es → All HasModestEnds es
-limited_modest es limited = λ k d inside. (omega (arith, (limited k d inside).0), omega (arith, (limited k d inside).1))
-
-told_modest : (es : List Ends) → All HasModestEnds es → AreModest (map bounds_of es)
-told_modest es modest = All-map (λ (b : Bounds). IsModest b.lo × IsModest b.hi) bounds_of es modest
+bounds_fit : (m : Lists) (s : System) (u : List ℤ) (lambda : ℤ) → length s.structure.unilateral ≡ length (contacts_of m) → IsGuess m u →
+    (reason : Reason) → named (unbounded_reason m u) (states_around s u lambda) ≡ Err reason → FitsReason m reason
+bounds_fit m s u lambda states guess =
+    error_named (FitsReason m) (unbounded_reason m u) (states_around s u lambda) own
+  where
+    own : (e : Unbounded) → states_around s u lambda ≡ Err e → FitsReason m (unbounded_reason m u e)
+    own too_wide is = (tt, refl)
+    own (unsettled number) is = (contact_inside m number (omega (arith, states, unsettled_inside s u lambda number is)), guess)
 
 unless_value : {A : Type 0} (leaves : Bool) (x a : A) → unless_wide leaves x ≡ Ok a → (leaves ≡ false) × (x ≡ a)
 unless_value true x a is = absurd (cc)
@@ -248,26 +262,105 @@ turned p u v is =
 candidate : (p : Problem) (n : ℕ) (u : List ℤ) → turns_of p (suc n) ≡ Ok u → (length u ≡ size_of p) × IsModerate u
 candidate p n u is = let before = value_before (turns_of p n) (turn_of p) u is in turned p before.0 u before.2
 
-certified_fits : PassedTestIsProof → BoundsAreLimited → ModelsHaveTheirMembers → (m : Lists) (p : Plan) (case : ℕ) (e : Enclosure) →
+-- the displacements of a trial are one for each row, and moderate
+tried : (p : Plan) (s : System) (u : List ℤ) → IsTried (trial_in p s) u → (length u ≡ row_count s.structure) × IsModerate u
+tried p s u is =
+    let own = value_before (candidate_under p s is.turn is.states) _ (trial u is.violated) is.is in
+    let violated = value_before (named (λ _. solve_reason is.turn) (violated_by s own.0 is.states)) (λ violated. Ok (trial own.0 violated)) (trial u is.violated) own.2 in
+    let same : own.0 ≡ u = ap (λ (t : Trial). t.u) (same_value (trial own.0 violated.0) (trial u is.violated) violated.2) in
+    let factor = value_before (factor_under p s.structure is.states) _ own.0 own.1 in
+    let turns = value_named (λ _. solve_reason is.turn) (turns_of (problem s is.states p.order factor.0) 8) own.0 factor.2 in
+    subst (λ (v : List ℤ). (length v ≡ row_count s.structure) × IsModerate v) same (candidate (problem s is.states p.order factor.0) 7 own.0 turns)
+  where
+    trial_result : Trial → Result Trial Reason
+    trial_result t = Ok t
+
+    same_value : (x y : Trial) → trial_result x ≡ Ok y → x ≡ y
+    same_value x y is = cc
+
+guess_of : (m : Lists) (u : List ℤ) (rows : ℕ) → rows ≡ 6 * length m.nodes → (length u ≡ rows) × IsModerate u → IsGuess m u
+guess_of m u rows same own = record { one_each = own.0 ∙ same; modest = λ k d inside. omega (arith, own.1 k d inside) }
+
+-- the records that a reason of the case's own names are the model's, and its guess is of the model's rows
+own_fits : (m : Lists) (p : Plan) (case : ℕ) (shared : Base) → IsOrder p.order → length p.order ≡ length m.nodes → built_nodes shared.structure ≡ length m.nodes →
+    length shared.structure.unilateral ≡ length (contacts_of m) → (reason : Reason) → enclosure_in m p case shared ≡ Err reason → FitsReason m reason
+own_fits m p case shared ordered count nodes states =
+    error_before (FitsReason m) (named load_reason (loads_of m case)) _
+    (error_named (FitsReason m) load_reason (loads_of m case) (load_fits m case))
+    (λ loads reason _.
+    let s = system shared.structure (laws_of m case) loads in
+    error_before (FitsReason m) (search_of (trial_in p s) (starting_states m)) _
+    (λ e ends. search_reason (FitsReason m) (trial_in p s) (starting_states m) e
+    (record { trials = λ turn closed. trial_fits m p s turn closed ordered count nodes; endless = (tt, refl) }) ends)
+    (λ u reason ends.
+    bounds_fit m s u shared.lambda states
+    (guess_of m u (row_count shared.structure) (ap (λ (n : ℕ). 6 * n) nodes) (tried p s u (search_value (trial_in p s) (starting_states m) u ends))) reason)
+    reason)
+
+-- ---- bounds
+
+abbrev HasModestEnds : Ends → Type 0
+HasModestEnds e = IsModest e.lo × IsModest e.hi
+
+limited_modest : (es : List Ends) → All HasLimitedEnds es → All HasModestEnds es
+limited_modest es limited = λ k d inside. (omega (arith, (limited k d inside).0), omega (arith, (limited k d inside).1))
+
+told_modest : (es : List Ends) → All HasModestEnds es → AreModest (map bounds_of es)
+told_modest es modest = All-map (λ (b : Bounds). IsModest b.lo × IsModest b.hi) bounds_of es modest
+
+settled_value : (s : System) (bounds e : Enclosure) → settled s bounds ≡ Ok e → in_states s bounds ≡ e
+settled_value s bounds e is = unless_both (reach_fails s bounds.u) (first_between s bounds.u) (in_states s bounds) e is
+  where
+    unless_both : (fails : Bool) (between : Option ℕ) (x e : Enclosure) → (if fails then Err too_wide else unless (option_map unsettled between) x) ≡ Ok e → x ≡ e
+    unless_both true between x e is = absurd (cc)
+    unless_both false None x e is = cc
+    unless_both false (Some k) x e is = absurd (cc)
+
+-- how many bounds and states there are
+record HasSizes (s : System) (e : Enclosure) : Type 0 where
+  displacements : length e.u ≡ row_count s.structure
+  forces : length e.force ≡ length s.structure.members
+  states : length e.closed ≡ length s.structure.unilateral
+
+sizes : (s : System) (u : List ℤ) (lambda : ℤ) (e : Enclosure) → states_around s u lambda ≡ Ok e → HasSizes s e
+sizes s u lambda e is =
+    let bounds = value_before (named (λ _. too_wide) (bounds_around s u lambda)) (settled s) e is in
+    let around = value_named (λ _. too_wide) (bounds_around s u lambda) bounds.0 bounds.1 in
+    let own = (unless_value (bounds_fail s u lambda) (enclosure_of s u lambda) bounds.0 around).1 in
+    let same = settled_value s bounds.0 e bounds.2 in
+    subst (HasSizes s) same
+    (record {
+      displacements = sym (ap (λ (x : Enclosure). length x.u) own) ∙ length-map-range_with_len _ 0 (row_count s.structure);
+      forces = length-map-range_with_len _ 0 (length s.structure.members);
+      states = length-map-range_with_len _ 0 (length s.structure.unilateral);
+    })
+
+-- the laws that the answers fit by
+pub record FitLaws : Type 0 where
+  pub passed_test : PassedTestIsProof
+  pub limits : StatesAreLimited
+  pub members : ModelsHaveTheirMembers
+  pub states : StatesAreCounted
+
+certified_fits : FitLaws → (m : Lists) (p : Plan) (case : ℕ) (e : Enclosure) →
     0 < length p.order → and_then (base_of m p) (enclosure_in m p case) ≡ Ok e → FitsModel m (answer_with (element_member_count m) (Ok e))
-certified_fits passed_test limits counts m p case e some given =
+certified_fits known m p case e some given =
     let chain = value_before (base_of m p) (enclosure_in m p case) e given in
     let shared = chain.0 in
     let is = is_base m p shared chain.1 in
     let around = are_around m p case shared e chain.2 in
     let b = shared.structure in
-    let s = system b (resting_laws b) around.loads in
+    let s = system b (laws_of m case) around.loads in
     let structure = a_structure m (model_members m) b is.structure in
-    let members = counts m b.members structure.0 in
-    let margin = margin_definite passed_test p is.middles is.radii shared.lambda some is.margin in
-    let moved = candidate (problem s [] p.order around.factor) 7 around.u around.turned in
-    let limited = limits s around.u shared.lambda e margin.positive moved.0 moved.1 around.bounds in
-    let same = (unless_value (bounds_fail s around.u shared.lambda) (enclosure_of s around.u shared.lambda) e around.bounds).1 in
-    let displacements : length e.u ≡ row_count b = sym (ap (λ (x : Enclosure). length x.u) same) ∙ length-map-range_with_len _ 0 (row_count b) in
-    let forces : length e.force ≡ length b.members = sym (ap (λ (x : Enclosure). length x.force) same) ∙ length-map-range_with_len _ 0 (length b.members) in
+    let members = known.members m b.members structure.0 in
+    let margin = margin_definite known.passed_test p is.middles is.radii shared.lambda some is.margin in
+    let moved = tried p s around.u around.tried in
+    let limited = known.limits s around.u shared.lambda e margin.positive moved.0 moved.1 around.bounds in
+    let size = sizes s around.u shared.lambda e around.bounds in
     let first = element_member_count m in (
-      omega (arith, length-map e.u bounds_of, displacements, structure.1),
-      omega (arith, length-map (drop first e.force) bounds_of, length-drop first e.force, forces, members),
+      omega (arith, length-map e.u bounds_of, size.displacements, structure.1),
+      omega (arith, length-map (drop first e.force) bounds_of, length-drop first e.force, size.forces, members),
+      size.states ∙ ap (λ (xs : List ℕ). length xs) structure.2 ∙ known.states m,
       told_modest e.u (limited_modest e.u limited.0),
       told_modest (drop first e.force) (All-drop HasModestEnds first e.force (limited_modest e.force limited.1)),
     )
@@ -279,22 +372,24 @@ with_fits : (m : Lists) (first : ℕ) (o : Result Enclosure Reason) → ((e : En
 with_fits m first (Ok e) bounds cause = bounds e refl
 with_fits m first (Err reason) bounds cause = cause reason refl
 
-answer_fits : PassedTestIsProof → BoundsAreLimited → ModelsHaveTheirMembers → (m : Lists) (p : Plan) (case : ℕ) →
+answer_fits : FitLaws → (m : Lists) (p : Plan) (case : ℕ) →
     0 < length p.order → IsOrder p.order → length p.order ≡ length m.nodes → FitsModel m (answer_of m p case)
-answer_fits passed_test limits counts m p case some ordered count =
+answer_fits known m p case some ordered count =
     with_fits m (element_member_count m) (and_then (base_of m p) (enclosure_in m p case))
-    (λ e is. certified_fits passed_test limits counts m p case e some is)
+    (λ e is. certified_fits known m p case e some is)
     (error_before (FitsReason m) (base_of m p) (enclosure_in m p case) (base_fits m p ordered count)
-    (λ shared reason _. own_fits m p case shared ordered count reason))
+    (λ shared reason made.
+    let structure = a_structure m (model_members m) shared.structure (is_base m p shared made).structure in
+    own_fits m p case shared ordered count structure.1 (ap (λ (xs : List ℕ). length xs) structure.2 ∙ sym (one_contact_each m)) reason))
 
 -- the answers of the cases of a model are answers of it
-pub answers_fit : PassedTestIsProof → BoundsAreLimited → ModelsHaveTheirMembers → (m : Lists) (p : Plan) →
+pub answers_fit : FitLaws → (m : Lists) (p : Plan) →
     0 < length p.order → IsOrder p.order → length p.order ≡ length m.nodes → AreAnswersOf m (answers_of m p)
-answers_fit passed_test limits counts m p some ordered count = record {
+answers_fit known m p some ordered count = record {
   one_each = length-map-range_with_len (answer_of m p) 0 (length m.cases);
-  fit = All-from_get_or (FitsModel m) (answers_of m p) (Uncertified turns_reason.cause [])
+  fit = All-from_get_or (FitsModel m) (answers_of m p) (Uncertified bounds_reason.cause [])
       (λ case inside.
       let below : case < length m.cases = omega (arith, inside, length-map-range_with_len (answer_of m p) 0 (length m.cases)) in
       subst (FitsModel m) (sym (get_or-map-range_with_len (answer_of m p) 0 (length m.cases) case case _ below (omega arith)))
-      (answer_fits passed_test limits counts m p case some ordered count));
+      (answer_fits known m p case some ordered count));
 }

@@ -3,12 +3,16 @@ pub mod Definite
 pub mod Sharing
 pub mod Telling
 pub mod Searching
+pub mod Listing
 pub mod GivenFactor
 pub mod GivenMargin
 pub mod GivenTurns
-pub mod GivenBounds
 pub mod GivenStructure
 pub mod Chained
 pub mod SoundnessLaw
 pub mod ExistenceLaw
 pub mod Fits
+pub mod Settled
+pub mod ContactLemmas
+pub mod GivenSearch
+pub mod GivenTrial

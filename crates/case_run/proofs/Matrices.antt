@@ -1,45 +1,16 @@
 -- How large the entries of the assembled matrices are.
-use Rattle.std.proofs.Common.{◌≡◌, ℕ, ◌+◌, ◌*◌, ◌^◌, ◌<◌, ◌≤◌, length, List, [], ap, ◌∙◌, Bool, true, false, Ok, Err, nat_lt, refl, subst, arith, unsigned_abs, ℤ, pos, ◌<ℤ◌, ◌≤ℤ◌, if◌then◌else◌}
+use Rattle.std.proofs.Common.{◌≡◌, ℕ, ◌+◌, ◌*◌, ◌^◌, ◌<◌, ◌≤◌, Bool, true, false, Ok, Err, nat_lt, refl, subst, arith, unsigned_abs, pos, ◌<ℤ◌, ◌≤ℤ◌, if◌then◌else◌}
 use Rattle.std.proofs.lemmas.Int.{ints}
-use Rattle.std.proofs.lemmas.List.{get_or-replicate}
 use Rattle.std.proofs.lemmas.Bool.Decides.{nat_tests}
 use Rattle.flex_interval.specs.Ends.{Ends}
 use Rattle.flex_interval.specs.Operations.{middle_of, radius_of}
 use Rattle.lists.specs.Results.{and_then}
 use Rattle.flex_interval.specs.declared.fault.IvFault.TheVariants.{Wide}
 use Rattle.member_set.specs.declared.members.Built.{Built}
-use Rattle.member_set.specs.declared.members.Law.{Law}
-use Rattle.member_set.specs.declared.members.Law.TheVariants.{Linear}
-use Rattle.member_set.specs.Members.{nothing, no_law, law_of, IsOneway, HasStates, built_nodes as nodes_of, row_count}
-use Rattle.member_set.specs.Realisation.{ExactLaw, linear, oneway, Stiffness, IsLawWithin, IsStiffnessOf, is_linear}
+use Rattle.member_set.specs.Members.{built_nodes as nodes_of, row_count}
 use Rattle.member_set.specs.Interval.{Outcome}
 use Rattle.sym_blocks.specs.Matrix.{Matrix, node_count, entry, IsSymmetricByBlocks}
-use Rattle.member_set.specs.States.{under, NoStatesNoChange}
-use Rattle.assembly.specs.Stiffness.{AreAssembled, NamesFirstWide, limited_entry, entry_sum}
-use Rattle.assembly.specs.declared.fault.AssembleFault.{AssembleFault}
-use Rattle.case_run.specs.Causes.{resting_laws}
-
--- a law at rest is linear in every realisation
-linear_at_rest : (q : ℤ) (law : ExactLaw) → IsLawWithin q (Linear nothing) law → is_linear law ≡ true
-linear_at_rest q linear kind = refl
-linear_at_rest q (oneway g) kind = elim kind [ ]
-
-pub all_linear : (b : Built) (s : Stiffness) → IsStiffnessOf b (resting_laws b) s → (k : ℕ) → k < s.members → is_linear (s.member k).law ≡ true
-all_linear b s real k inside =
-    let own = subst (λ (n : ℕ). k < n) real.all_members inside in
-    linear_at_rest s.denominator (s.member k).law
-    (subst (λ (l : Law). IsLawWithin s.denominator l (s.member k).law) (get_or-replicate (length b.members) k (Linear nothing) no_law own)
-    (real.member_within k inside).law_within)
-
--- at rest no member has a one-way law
-at_rest : (law : Law) → law ≡ Linear nothing → IsOneway law → ⊥
-at_rest law is one = subst (λ (l : Law). IsOneway l) is one
-
-pub no_states_at_rest : (b : Built) (laws : List Law) → b.unilateral ≡ [] → laws ≡ resting_laws b → HasStates b laws
-no_states_at_rest b laws free are = λ k inside. (
-  λ has. let own : has.0 < length b.unilateral = has.1 in absurd (omega (arith, own, ap (λ (xs : List ℕ). length xs) free)),
-  λ one. absurd (at_rest (law_of laws k) (ap (λ (l : List Law). law_of l k) are ∙ get_or-replicate (length b.members) k (Linear nothing) no_law inside) one),
-)
+use Rattle.assembly.specs.Stiffness.{AreAssembled, limited_entry, entry_sum}
 
 -- the sizes of an enclosure's middle and radius
 abbrev sizes : Ends → ℕ
@@ -106,13 +77,3 @@ radii_not_negative b radii kept same inside i j =
         | true ↦ λ col. inside i j (grind (arith, nat_tests)) (grind (arith, nat_tests))
       ] refl
     ] refl
-
--- ---- where no member has a state, all take part
-
-pub same_matrices : NoStatesNoChange → (b : Built) (closed : List Bool) (middles radii : Matrix) → b.unilateral ≡ [] →
-    AreAssembled (under b closed) middles radii → AreAssembled b middles radii
-same_matrices same b closed middles radii none = subst (λ (x : Built). AreAssembled x middles radii) (same b closed none)
-
-pub same_fault_row : NoStatesNoChange → (b : Built) (closed : List Bool) (fault : AssembleFault) → b.unilateral ≡ [] →
-    NamesFirstWide (under b closed) fault → NamesFirstWide b fault
-same_fault_row same b closed fault none = subst (λ (x : Built). NamesFirstWide x fault) (same b closed none)

@@ -2,6 +2,8 @@
 use Rattle.std.specs.Int.{int_div_euclid}
 use Rattle.std.proofs.Common.{◌≡◌, ◌⊎◌, ℕ, zero, suc, ◌*◌, ◌<◌, refl, sym, ◌∙◌, ap, subst, arith, inl, inr, Option, Some, None, Result, Ok, Err, List, [], length, ℤ, pos, ◌≤ℤ◌, ◌<ℤ◌}
 use Rattle.std.specs.List.{slice_get}
+use Rattle.std.specs.Prelude.{slice_index, slice_index_or, Bool, false, if◌then◌else◌, ◌*ℤ◌}
+use Rattle.int_laws.proofs.SumLaws.{sum_below-same}
 use Rattle.std.proofs.lemmas.Bool.{or_right}
 use Rattle.std.proofs.lemmas.Int.{ints}
 use Rattle.std.proofs.lemmas.List.FromFn.{length-map-range_with_len, get_or-map-range_with_len}
@@ -13,31 +15,37 @@ use Rattle.lists.specs.Results.{and_then, named, unless, or_else, first_value}
 use Rattle.lists.specs.Search.{first_below, least_below}
 use Rattle.lists.proofs.SearchLemmas.{Finds, first_below-finds, least_below-le, least_below-one}
 use Rattle.member_set.specs.declared.members.Built.{Built}
-use Rattle.member_set.specs.Members.{system}
-use Rattle.member_set.specs.Realisation.{IsRealisation, Stiffness, IsStiffnessOf, LinearIsEveryMember}
+use Rattle.member_set.specs.declared.members.Law.{Law}
+use Rattle.member_set.specs.Members.{System, system, IsBuilt, HasStates, row_count}
+use Rattle.member_set.specs.Realisation.{IsRealisation, IsInState, Stiffness, IsStiffnessOf, entry_unit, exact_entry, linear_members}
+use Rattle.member_set.specs.States.{is_included, under, stiffness_under, StaysBuilt, HasStiffnessUnder, LinearMembersTakePart}
 use Rattle.model_types.specs.Lists.{Lists}
 use Rattle.model_types.specs.Rules.{IsModel}
 use Rattle.bound_laws.specs.Definiteness.{CholeskyTest, row_margin, NoRowFails, IsDefinitenessMargin, EachIsDefiniteWith, PassedTestIsProof}
-use Rattle.assembly.specs.Stiffness.{matrices_of, middle}
+use Rattle.assembly.specs.Stiffness.{matrices_of, IsWithinRadius}
 use Rattle.assembly.specs.Inclusion.{MatricesHold}
-use Rattle.solve.specs.Refinement.{problem}
-use Rattle.solve.specs.Turns.{turns_of}
 use Rattle.certificate.specs.Checker.{test_by, row_refused, margin_by}
-use Rattle.certificate.specs.Bounds.{IsDefiniteStiffness, EnclosesEquilibrium, BoundsHold, bounds_around}
+use Rattle.certificate.specs.Bounds.{IsDefiniteStiffness}
+use Rattle.certificate.specs.States.{StatesHold, states_around}
 use Rattle.certificate.specs.declared.bounds.Enclosure.{Enclosure}
 use Rattle.structure.specs.Elements.{element_member_count}
+use Rattle.structure.specs.Laws.{StructuresHaveStates}
 use Rattle.structure.specs.Structure.{structure_of, StructuresAreStiff, IsStructureOf}
 use Rattle.load_vectors.specs.Loads.{loads_of}
-use Rattle.case_run.specs.Causes.{Plan, resting_laws}
+use Rattle.case_run.specs.Causes.{Plan}
+use Rattle.case_run.specs.Contacts.{starting_states}
+use Rattle.load_vectors.specs.Laws.{laws_of, LawsSuitModels}
+use Rattle.case_run.specs.Trials.{trial_in, search_of}
 use Rattle.case_run.specs.Certified.{shift_of, last_place}
-use Rattle.case_run.specs.Answers.{Reason, element_reason, matrix_reason, margin_reason, load_reason, turns_reason, bounds_reason, factor_at, margin_at, margin_of, Base, base, base_of, enclosure_in, answer_with, answer_of}
+use Rattle.case_run.specs.Reasons.{Reason, element_reason, matrix_reason, margin_reason, load_reason, factor_at}
+use Rattle.case_run.specs.Answers.{margin_at, margin_of, Base, base, base_of, unbounded_reason, bounds_in, enclosure_in, answer_with, answer_of, answers_of}
 use Rattle.case_run.specs.Equilibria.{OfEquilibria, HoldsAlways}
 use Rattle.case_run.specs.Soundness.{AnswerHolds, AnswersHold}
 use Rattle.case_run.proofs.Definite.{definite_stiffness}
 use Rattle.case_run.proofs.GivenStructure.{structure_given, loads_given}
-use Rattle.case_run.proofs.Matrices.{all_linear}
 use Rattle.case_run.proofs.Searching.{int_lt-yes}
-use Rattle.case_run.proofs.Telling.{told_holds}
+use Rattle.case_run.proofs.Settled.{IsTried, search_value}
+use Rattle.case_run.proofs.Telling.{HoldsIn, told_holds}
 
 -- ---- results in a chain
 
@@ -114,7 +122,7 @@ pub record IsBase (m : Lists) (p : Plan) (shared : Base) : Type 0 where
   pub structure : structure_of m ≡ Ok shared.structure
   pub middles : Entries
   pub radii : Entries
-  pub matrices : matrices_of shared.structure ≡ Ok (middles, radii)
+  pub matrices : matrices_of (under shared.structure []) ≡ Ok (middles, radii)
   pub margin : margin_of p middles radii ≡ Ok shared.lambda
 
 abbrev from_margin : Built → ℤ → Result Base Reason
@@ -124,13 +132,13 @@ abbrev from_matrices : Plan → Built → Entries × Entries → Result Base Rea
 from_matrices p b matrices = and_then (margin_of p matrices.0 matrices.1) (from_margin b)
 
 abbrev from_structure : Plan → Built → Result Base Reason
-from_structure p b = and_then (named matrix_reason (matrices_of b)) (from_matrices p b)
+from_structure p b = and_then (named matrix_reason (matrices_of (under b []))) (from_matrices p b)
 
 pub is_base : (m : Lists) (p : Plan) (shared : Base) → base_of m p ≡ Ok shared → IsBase m p shared
 is_base m p shared is =
     let structure = value_before (named element_reason (structure_of m)) (from_structure p) shared is in
     let b = structure.0 in
-    let matrices = value_before (named matrix_reason (matrices_of b)) (from_matrices p b) shared structure.2 in
+    let matrices = value_before (named matrix_reason (matrices_of (under b []))) (from_matrices p b) shared structure.2 in
     let margin = value_before (margin_of p matrices.0.0 matrices.0.1) (from_margin b) shared matrices.2 in
     let same : base b margin.0 ≡ shared = same_value (base b margin.0) shared margin.2 in
     subst (IsBase m p) same
@@ -138,91 +146,124 @@ is_base m p shared is =
       structure = value_named element_reason (structure_of m) b structure.1;
       middles = matrices.0.0;
       radii = matrices.0.1;
-      matrices = value_named matrix_reason (matrices_of b) matrices.0 matrices.1;
+      matrices = value_named matrix_reason (matrices_of (under b [])) matrices.0 matrices.1;
       margin = margin.1;
     }
   where
     same_value : (x y : Base) → from_margin x.structure x.lambda ≡ Ok y → x ≡ y
     same_value x y is = cc
 
--- the bounds around some displacements under the loads of the case
+-- the bounds around the displacements of some trial, by the laws and under the loads of the case
 pub record AreAround (m : Lists) (p : Plan) (case : ℕ) (shared : Base) (e : Enclosure) : Type 0 where
   pub loads : List Ends
-  pub factor : Entries
   pub u : List ℤ
-  pub turned : turns_of (problem (system shared.structure (resting_laws shared.structure) loads) [] p.order factor) 8 ≡ Ok u
+  pub tried : IsTried (trial_in p (system shared.structure (laws_of m case) loads)) u
   pub loaded : loads_of m case ≡ Ok loads
-  pub bounds : bounds_around (system shared.structure (resting_laws shared.structure) loads) u shared.lambda ≡ Ok e
+  pub bounds : states_around (system shared.structure (laws_of m case) loads) u shared.lambda ≡ Ok e
 
-abbrev from_turns : Base → List Ends → List ℤ → Result Enclosure Reason
-from_turns shared loads u = named (λ _. bounds_reason) (bounds_around (system shared.structure (resting_laws shared.structure) loads) u shared.lambda)
+abbrev of_case : Lists → ℕ → Base → List Ends → System
+of_case m case shared loads = system shared.structure (laws_of m case) loads
 
-abbrev from_factor : Plan → Base → List Ends → Entries → Result Enclosure Reason
-from_factor p shared loads factor =
-    and_then (named (λ _. turns_reason) (turns_of (problem (system shared.structure (resting_laws shared.structure) loads) [] p.order factor) 8)) (from_turns shared loads)
+abbrev from_search : Lists → ℕ → Base → List Ends → List ℤ → Result Enclosure Reason
+from_search m case shared loads u = named (unbounded_reason m u) (states_around (of_case m case shared loads) u shared.lambda)
 
-abbrev from_loads : Plan → Base → List Ends → Result Enclosure Reason
-from_loads p shared loads = and_then (factor_at p (middle shared.structure) (pos 0)) (from_factor p shared loads)
+abbrev from_loads : Lists → Plan → ℕ → Base → List Ends → Result Enclosure Reason
+from_loads m p case shared loads = bounds_in m p (of_case m case shared loads) shared.lambda
 
 pub are_around : (m : Lists) (p : Plan) (case : ℕ) (shared : Base) (e : Enclosure) → enclosure_in m p case shared ≡ Ok e → AreAround m p case shared e
 are_around m p case shared e is =
-    let loads = value_before (named load_reason (loads_of m case)) (from_loads p shared) e is in
-    let factor = value_before (factor_at p (middle shared.structure) (pos 0)) (from_factor p shared loads.0) e loads.2 in
-    let s = system shared.structure (resting_laws shared.structure) loads.0 in
-    let u = value_before (named (λ _. turns_reason) (turns_of (problem s [] p.order factor.0) 8)) (from_turns shared loads.0) e factor.2 in
+    let loads = value_before (named load_reason (loads_of m case)) (from_loads m p case shared) e is in
+    let s = of_case m case shared loads.0 in
+    let u = value_before (search_of (trial_in p s) (starting_states m)) (from_search m case shared loads.0) e loads.2 in
     record {
       loads = loads.0;
-      factor = factor.0;
       u = u.0;
-      turned = value_named (λ _. turns_reason) (turns_of (problem s [] p.order factor.0) 8) u.0 u.1;
+      tried = search_value (trial_in p s) (starting_states m) u.0 u.1;
       loaded = value_named load_reason (loads_of m case) loads.0 loads.1;
-      bounds = value_named (λ _. bounds_reason) (bounds_around s u.0 shared.lambda) e u.2;
+      bounds = value_named (unbounded_reason m u.0) (states_around s u.0 shared.lambda) e u.2;
     }
+
+-- ---- the linear members
+
+-- the entry of the members that take part under no states is that of the linear members
+linear_entry : LinearMembersTakePart → (b : Built) (laws : List Law) (s : Stiffness) → IsBuilt b → HasStates b laws → IsStiffnessOf b laws s → (row col : ℕ) →
+    exact_entry (is_included b []) s row col ≡ exact_entry (linear_members s) s row col
+linear_entry take_part b laws s built states real row col =
+    let term : Bool → ℕ → ℤ = λ t k. if t then (s.member k).shape row *ℤ ((s.member k).stiffness *ℤ (s.member k).shape col) else pos 0 in
+    sum_below-same s.members (λ k. term (is_included b [] k) k) (λ k. term (linear_members s k) k)
+    (λ k inside. ap (λ (t : Bool). term t k) (take_part b laws s k built states real inside))
+
+-- the matrices under no states hold it
+linear_near : MatricesHold → StaysBuilt → HasStiffnessUnder → LinearMembersTakePart → (b : Built) (laws : List Law) (s : Stiffness) (middles radii : Entries) →
+    IsBuilt b → HasStates b laws → IsStiffnessOf b laws s → matrices_of (under b []) ≡ Ok (middles, radii) → (i j : ℕ) → i < row_count b → j < row_count b →
+    IsWithinRadius (entry_unit s.denominator) (exact_entry (linear_members s) s i j) (middles i j) (radii i j)
+linear_near matrices_hold stays_built stiffness_of take_part b laws s middles radii built states real matrices i j i_in j_in =
+    let own = stiffness_of b laws [] s real in
+    let near = matrices_hold (under b []) laws (stiffness_under b [] s) middles radii (stays_built b [] built) own.0 matrices i j i_in j_in in
+    let same = own.1 i j ∙ linear_entry take_part b laws s built states real i j in
+    subst (λ (x : ℤ). IsWithinRadius (entry_unit s.denominator) x (middles i j) (radii i j)) same near
 
 -- ---- the law
 
--- every stiffness of the structure is definite with the margin
-base_definite : PassedTestIsProof → MatricesHold → LinearIsEveryMember → (m : Lists) (p : Plan) (shared : Base) (s : Stiffness) → 0 < length p.order →
-    length p.order ≡ length m.nodes → IsBase m p shared → IsStructureOf m shared.structure → IsStiffnessOf shared.structure (resting_laws shared.structure) s →
+-- the laws that it stands on
+pub record Laws : Type 0 where
+  pub passed : PassedTestIsProof
+  pub matrices_hold : MatricesHold
+  pub stays_built : StaysBuilt
+  pub stiffness_under : HasStiffnessUnder
+  pub take_part : LinearMembersTakePart
+  pub states_hold : StatesHold
+  pub stiff : StructuresAreStiff
+  pub have_states : StructuresHaveStates
+  pub suit : LawsSuitModels
+
+-- every stiffness of the structure's linear members is definite with the margin
+base_definite : Laws → (m : Lists) (p : Plan) (shared : Base) (laws : List Law) (s : Stiffness) → 0 < length p.order →
+    length p.order ≡ length m.nodes → IsBase m p shared → IsStructureOf m shared.structure → HasStates shared.structure laws → IsStiffnessOf shared.structure laws s →
     (pos 1 ≤ℤ shared.lambda) × IsDefiniteStiffness s shared.lambda
-base_definite passed matrices_hold every_member m p shared s some same is structure real =
+base_definite known m p shared laws s some same is structure states real =
     let b = shared.structure in
-    let margin = margin_definite passed p is.middles is.radii shared.lambda some is.margin in
-    let near = matrices_hold b (resting_laws b) s is.middles is.radii structure.built real is.matrices in (
+    let margin = margin_definite known.passed p is.middles is.radii shared.lambda some is.margin in
+    let near = linear_near known.matrices_hold known.stays_built known.stiffness_under known.take_part b laws s is.middles is.radii structure.built states real is.matrices in (
       margin.positive,
-      definite_stiffness b (resting_laws b) s margin.test shared.lambda (omega (arith, margin.size, same, structure.nodes)) margin.definite real
-          (λ i j i_in j_in. rw (every_member s (all_linear b s real) i j, margin.middles, margin.radii) (near i j i_in j_in)),
+      definite_stiffness b laws s margin.test shared.lambda (omega (arith, margin.size, same, structure.nodes)) margin.definite real
+          (λ i j i_in j_in. rw (margin.middles, margin.radii) (near i j i_in j_in)),
     )
 
-certified_holds : PassedTestIsProof → MatricesHold → LinearIsEveryMember → BoundsHold → StructuresAreStiff →
-    (m : Lists) (p : Plan) (case : ℕ) (e : Enclosure) → IsModel m → length p.order ≡ length m.nodes →
-    and_then (base_of m p) (enclosure_in m p case) ≡ Ok e → OfEquilibria m case (EnclosesEquilibrium e)
-certified_holds passed matrices_hold every_member bounds_hold stiff m p case e model same given = λ b loads r exact structure loaded real balance.
+certified_holds : Laws → (m : Lists) (p : Plan) (case : ℕ) (e : Enclosure) → IsModel m → case < length m.cases → length p.order ≡ length m.nodes →
+    and_then (base_of m p) (enclosure_in m p case) ≡ Ok e → OfEquilibria m case (HoldsIn m e)
+certified_holds known m p case e model in_range same given = λ b loads r exact structure loaded real balance.
     let chain = value_before (base_of m p) (enclosure_in m p case) e given in
     let shared = chain.0 in
     let is = is_base m p shared chain.1 in
     let around = are_around m p case shared e chain.2 in
+    let laws = laws_of m case in
     let same_structure : b ≡ shared.structure = same_value (structure_of m) b shared.structure (structure_given m b structure) is.structure in
     let same_loads : loads ≡ around.loads = same_value (loads_of m case) loads around.loads (loads_given m case loads loaded) around.loaded in
-    let own_structure = subst (IsStructureOf m) same_structure structure in
-    let own_real = subst (λ (l : List Ends). IsRealisation (system shared.structure (resting_laws shared.structure) l) r) same_loads
-    (subst (λ (c : Built). IsRealisation (system c (resting_laws c) loads) r) same_structure real) in
-    let definite = base_definite passed matrices_hold every_member m p shared r.stiffness (omega (arith, same, model.some_node)) same is own_structure own_real.stiffness in
-    bounds_hold (system shared.structure (resting_laws shared.structure) around.loads) around.u shared.lambda e r exact
-    own_structure.built (stiff m shared.structure model own_structure) definite.0 around.bounds own_real definite.1 balance
+    let own = subst (IsStructureOf m) same_structure structure in
+    let own_real = subst (λ (l : List Ends). IsRealisation (system shared.structure laws l) r) same_loads
+    (subst (λ (c : Built). IsRealisation (system c laws loads) r) same_structure real) in
+    let states = known.have_states m shared.structure laws own (known.suit m case model in_range).suit in
+    let definite = base_definite known m p shared laws r.stiffness (omega (arith, same, model.some_node)) same is own states own_real.stiffness in
+    let holds = known.states_hold (system shared.structure laws around.loads) around.u shared.lambda e r exact
+    own.built states (known.stiff m shared.structure model own) definite.0 around.bounds own_real definite.1 balance in
+    record {
+      encloses = holds.0;
+      states = subst (λ (numbers : List ℕ). (number : ℕ) → number < length numbers → IsInState r exact (slice_index numbers number) (slice_index_or e.closed number false)) own.unilateral holds.1;
+    }
   where
     same_value : {A E : Type 0} (o : Result A E) (x y : A) → o ≡ Ok x → o ≡ Ok y → x ≡ y
     same_value o x y one other = cc
 
-with_holds : (m : Lists) (case : ℕ) (o : Result Enclosure Reason) → ((e : Enclosure) → o ≡ Ok e → OfEquilibria m case (EnclosesEquilibrium e)) →
+with_holds : (m : Lists) (case : ℕ) (o : Result Enclosure Reason) → ((e : Enclosure) → o ≡ Ok e → OfEquilibria m case (HoldsIn m e)) →
     HoldsAlways m case (answer_with (element_member_count m) o)
 with_holds m case (Ok e) holds = told_holds m case e (holds e refl)
 with_holds m case (Err reason) holds = tt
 
-pub answer_holds : PassedTestIsProof → MatricesHold → LinearIsEveryMember → BoundsHold → StructuresAreStiff → AnswerHolds
-answer_holds passed matrices_hold every_member bounds_hold stiff m p case model same =
+pub answer_holds : Laws → AnswerHolds
+answer_holds known m p case model in_range same =
     with_holds m case (and_then (base_of m p) (enclosure_in m p case))
-    (λ e given. certified_holds passed matrices_hold every_member bounds_hold stiff m p case e model same given)
+    (λ e given. certified_holds known m p case e model in_range same given)
 
 -- what stands in a list that was made place by place
 stands_at : {X : Type 0} (n : ℕ) (f : ℕ → X) (k : ℕ) (x : X) → slice_get (listed n f) k ≡ Some x → f k ≡ x
@@ -232,4 +273,5 @@ stands_at n f k x is =
 
 pub answers_hold : AnswerHolds → AnswersHold
 answers_hold holds m p model same = λ case a is.
-    subst (HoldsAlways m case) (stands_at (length m.cases) (answer_of m p) case a is) (holds m p case model same)
+    let inside : case < length m.cases = omega (arith, slice_get_within (answers_of m p) case a is, length-map-range_with_len (answer_of m p) 0 (length m.cases)) in
+    subst (HoldsAlways m case) (stands_at (length m.cases) (answer_of m p) case a is) (holds m p case model inside same)

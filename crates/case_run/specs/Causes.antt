@@ -1,9 +1,5 @@
 -- In which order a model is worked through, and the cause that a row names.
-use Rattle.std.specs.Prelude.{ℕ, ◌/◌, ◌%◌, List, length, replicate, Option}
-use Rattle.member_set.specs.declared.members.Built.{Built}
-use Rattle.member_set.specs.declared.members.Law.{Law}
-use Rattle.member_set.specs.declared.members.Law.TheVariants.{Linear}
-use Rattle.member_set.specs.Members.{nothing}
+use Rattle.std.specs.Prelude.{ℕ, ◌/◌, ◌%◌, List, Option}
 use Rattle.model_types.specs.declared.answers.Cause.{Cause}
 use Rattle.model_types.specs.declared.answers.Cause.TheVariants as causes
 
@@ -14,10 +10,6 @@ pub record Plan : Type 0 where
 
 abbrev pub plan : List ℕ → List (Option ℕ) → Plan
 plan order parents = record { order = order; parents = parents }
-
--- the laws of a case without initial deformations
-abbrev pub resting_laws : Built → List Law
-resting_laws b = replicate (length b.members) (Linear nothing)
 
 -- the node and the freedom of a row
 abbrev pub at_row : (ℕ → ℕ → Cause) → ℕ → Cause

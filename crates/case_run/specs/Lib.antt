@@ -1,5 +1,9 @@
 pub mod Causes
+pub mod Contacts
 pub mod Steps
+pub mod Reasons
+pub mod Trials
+pub mod Trying
 pub mod Answers
 pub mod Faults
 pub mod Certified

@@ -1,27 +1,25 @@
 -- What all cases of a model share.
-use Rattle.std.specs.Prelude.{◌≡◌, [], IfOk, MatchResult, pos, ◌≤ℤ◌, Ok, Err}
+use Rattle.std.specs.Prelude.{◌≡◌, ℕ, List, Option, length, IfOk, pos, ◌≤ℤ◌}
 use Rattle.model_types.specs.Lists.{Lists}
+use Rattle.model_types.specs.Rules.{IsModel}
 use Rattle.structure.specs.Structure.{IsStructureOf}
 use Rattle.member_set.specs.Members.{AreStiff}
 use Rattle.case_run.specs.declared.shared.Shared.{Shared}
-use Rattle.case_run.specs.Causes.{Plan, resting_laws}
-use Rattle.assembly.specs.Stiffness.{middle}
-use Rattle.factor_data.specs.Columns.{factor_entry}
-use Rattle.case_run.specs.Answers.{because, factor_at}
-use Rattle.case_run.specs.Steps.{IsFactorFor}
+use Rattle.case_run.specs.Causes.{plan as in_order}
+use Rattle.case_run.specs.Contacts.{contacts_of, starting_states}
+use Rattle.case_run.specs.Steps.{IsFactorFor, IsPlan}
+use Rattle.case_run.specs.Trying.{IsFactorUnder}
 
--- what a case needs of it, whatever the plan was
-pub record IsReady (m : Lists) (s : Shared) : Type 0 where
+-- what a case needs of it, where the nodes are eliminated in that order
+pub record IsReady (m : Lists) (order : List ℕ) (parents : List (Option ℕ)) (s : Shared) : Type 0 where
+  pub model : IsModel m
   pub structure : IsStructureOf m s.b
   pub stiff : AreStiff s.b
-  pub linear : s.b.unilateral ≡ []
-  pub laws : s.laws.items ≡ resting_laws s.b
+  pub contacts : s.contacts.items ≡ contacts_of m
+  pub start : s.start.items ≡ starting_states m
   pub positive : pos 1 ≤ℤ s.lambda
-  pub factor : IfOk s.factor (IsFactorFor s.b)
-
--- the factor without a shift, or why there is none, is that of the structure's middles
-abbrev pub HasUnshifted : Plan → Shared → Type 0
-HasUnshifted p s =
-    MatchResult s.factor
-    (λ f. (f.order ≡ p.order) × (factor_at p (middle s.b) (pos 0) ≡ Ok (factor_entry f)))
-    (λ cause. factor_at p (middle s.b) (pos 0) ≡ Err (because cause))
+  pub plan : IsPlan order parents
+  pub nodes : length order ≡ length m.nodes
+  pub given : IsFactorUnder (in_order order parents) s.b s.start.items s.first
+  pub own_order : IfOk s.first (λ f. f.order ≡ order)
+  pub fits : IfOk s.first (IsFactorFor s.b)

@@ -1,5 +1,5 @@
 -- That the defined answers hold, whatever worked them out, and that there are realisations that they speak of.
-use Rattle.std.specs.Prelude.{ℕ, ◌≡◌, List, length}
+use Rattle.std.specs.Prelude.{ℕ, ◌≡◌, ◌<◌, List, length}
 use Rattle.flex_interval.specs.Ends.{Ends}
 use Rattle.member_set.specs.declared.members.Built.{Built}
 use Rattle.member_set.specs.Members.{system}
@@ -9,14 +9,15 @@ use Rattle.model_types.specs.Rules.{IsModel}
 use Rattle.structure.specs.Structure.{IsStructureOf}
 use Rattle.structure.specs.Enclosure.{EnclosesElements, EnclosesRestraints}
 use Rattle.load_vectors.specs.Loads.{AreLoads, EncloseLoads}
-use Rattle.case_run.specs.Causes.{Plan, resting_laws}
+use Rattle.case_run.specs.Causes.{Plan}
+use Rattle.load_vectors.specs.Laws.{laws_of}
 use Rattle.case_run.specs.Answers.{answer_of, answers_of}
 use Rattle.case_run.specs.Equilibria.{HoldsAlways, HoldAlways}
 
 -- every equilibrium of every realisation of a case lies within the bounds of the answer of the case, where the order of
 -- elimination has as many places as the model has nodes
 abbrev pub AnswerHolds : Type 0
-AnswerHolds = (m : Lists) (p : Plan) (case : ℕ) → IsModel m → length p.order ≡ length m.nodes → HoldsAlways m case (answer_of m p case)
+AnswerHolds = (m : Lists) (p : Plan) (case : ℕ) → IsModel m → case < length m.cases → length p.order ≡ length m.nodes → HoldsAlways m case (answer_of m p case)
 
 -- the same for all cases of a model
 abbrev pub AnswersHold : Type 0
@@ -25,6 +26,6 @@ AnswersHold = (m : Lists) (p : Plan) → IsModel m → length p.order ≡ length
 -- the lower ends of a model's structure and of a case's loads are a realisation, where the members hold the exact straights
 -- and restraints, and the loads the exact loads
 abbrev pub RealisationsExist : Type 0
-RealisationsExist = (m : Lists) (b : Built) (case : ℕ) (loads : List Ends) →
+RealisationsExist = (m : Lists) (b : Built) (case : ℕ) (loads : List Ends) → IsModel m → case < length m.cases →
     IsStructureOf m b → EnclosesElements m b → EnclosesRestraints m b → AreLoads m case loads → EncloseLoads m case loads →
-    IsRealisation (system b (resting_laws b) loads) (lower_ends (system b (resting_laws b) loads))
+    IsRealisation (system b (laws_of m case) loads) (lower_ends (system b (laws_of m case) loads))

@@ -1,12 +1,9 @@
 ghost use Rattle.std.specs.Prelude.{◌≡◌};
-ghost use Rattle.case_run.specs.Faults.{build_fault, assemble_fault, load_fault, scalar_fault, solve_fault, enclose_fault};
+ghost use Rattle.case_run.specs.Faults.{build_fault, assemble_fault, scalar_fault};
 
 use assembly::AssembleFault;
-use certificate::EncloseFault;
 use factor::ScalarFault;
-use load_vectors::LoadFault;
-use model_types::{Cause, NodeId, RestraintId};
-use solve::SolveFault;
+use model_types::{Cause, NodeId};
 use std::alloc::AllocError;
 use structure::BuildFault;
 
@@ -55,20 +52,6 @@ impl From<AssembleFault> for CaseFault {
     }
 }
 
-impl From<LoadFault> for CaseFault {
-    ghost from_gives = { λ error fault. fault ≡ load_fault error };
-
-    fn from(error: LoadFault) -> CaseFault {
-        match error {
-            LoadFault::Wide { row } => CaseFault::Because(Cause::WidthLoad {
-                node: NodeId(row / 6),
-                freedom: row % 6,
-            }),
-            LoadFault::NoMemory => CaseFault::NoMemory,
-        }
-    }
-}
-
 impl From<ScalarFault> for CaseFault {
     ghost from_gives = { λ error fault. fault ≡ scalar_fault error };
 
@@ -80,32 +63,6 @@ impl From<ScalarFault> for CaseFault {
             }),
             ScalarFault::Wide { node } => CaseFault::Because(Cause::WidthFactor(NodeId(node))),
             ScalarFault::NoMemory => CaseFault::NoMemory,
-        }
-    }
-}
-
-impl From<SolveFault> for CaseFault {
-    ghost from_gives = { λ error fault. fault ≡ solve_fault error };
-
-    fn from(error: SolveFault) -> CaseFault {
-        match error {
-            SolveFault::Wide => CaseFault::Because(Cause::WidthSolve { turn: 1 }),
-            SolveFault::NoMemory => CaseFault::NoMemory,
-        }
-    }
-}
-
-impl From<EncloseFault> for CaseFault {
-    ghost from_gives = { λ error fault. fault ≡ enclose_fault error };
-
-    fn from(error: EncloseFault) -> CaseFault {
-        match error {
-            EncloseFault::Wide => CaseFault::Because(Cause::WidthResidual),
-            EncloseFault::State { number } => CaseFault::Because(Cause::State {
-                restraint: RestraintId(number),
-                minus: false,
-            }),
-            EncloseFault::NoMemory => CaseFault::NoMemory,
         }
     }
 }

@@ -3,11 +3,10 @@ use Rattle.case_run.proofs.Chained.{listed_more}
 use Rattle.case_run.proofs.cases.each_answer.Goals as goal
 
 pub loop-case-preserved : goal.loop-case-preserved
-loop-case-preserved c = λ p unshifted.
-    listed_more c.loop-case.case _ _ _ _ c.in_ok-push.ensures.items (c.loop-case.invariant p unshifted) (c.in_ok-case_answer.ensures p unshifted)
+loop-case-preserved c = listed_more c.loop-case.case _ _ _ _ c.in_ok-push.ensures.items c.loop-case.invariant c.in_ok-case_answer.ensures
 
 pub returns : goal.returns
 returns c =
     let same = c.cases-cases.ensures.records in
     let at_end : c.loop-case.case ≡ length c.args.m.now.cases = omega (arith, ap (λ xs. length xs) same) in
-    λ p unshifted. rw (sym at_end) (c.loop-case.invariant p unshifted)
+    rw (sym at_end) c.loop-case.invariant

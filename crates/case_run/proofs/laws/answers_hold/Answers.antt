@@ -3,5 +3,16 @@ use Rattle.case_run.proofs.laws.answers_hold.Goals as goal
 
 pub returns : goal.returns
 returns c =
-    let each = answer_holds c.passed_test_is_proof.ensures c.matrices_hold.ensures c.laws_keep_stretch.ensures.every_member c.bounds_hold.ensures c.structures_are_stiff.ensures in
+    let each = answer_holds
+    (record {
+      passed = c.passed_test_is_proof.ensures;
+      matrices_hold = c.matrices_hold.ensures;
+      stays_built = c.states_select_members.ensures.built;
+      stiffness_under = c.states_select_members.ensures.stiffness;
+      take_part = c.states_select_members.ensures.linear;
+      states_hold = c.states_hold.ensures;
+      stiff = c.structures_are_stiff.ensures;
+      have_states = c.structures_have_states.ensures;
+      suit = c.laws_suit_models.ensures;
+    }) in
     record { each = each; all = answers_hold each }

@@ -1,24 +1,27 @@
-use Rattle.std.proofs.Common.{◌∙◌, sym, to_z-of_z, rules, FitsSigned}
+use Rattle.std.proofs.Common.{◌∙◌, ap, map, to_z-of_z, rules, FitsSigned}
 use Rattle.std.specs.Int.{w128}
 use Rattle.std.proofs.lemmas.Result.{err_from_is_err_and}
 use Rattle.case_run.specs.Causes.{plan}
-use Rattle.case_run.proofs.Sharing.{factor_for}
 use Rattle.sym_blocks.specs.Matrix.{entry}
-use Rattle.case_run.proofs.Chained.{tells_also, base_no_structure, base_no_matrices, base_no_margin, base_is, unshifted_there}
+use Rattle.case_run.specs.declared.contacts.Contact.{Contact}
+use Rattle.case_run.proofs.Chained.{tells_also, base_no_structure, base_no_matrices, base_no_margin, base_is}
 use Rattle.case_run.proofs.shared.share.Goals as goal
 
 pub returns-clause-ready : goal.returns-clause-ready
 returns-clause-ready c =
     let fits : FitsSigned w128 c.in_ok-lambda.lambda = search rules in
     record {
+      model = c.nodes-nodes.ensures.model;
       structure = c.in_ok-b.ensures.structure;
       stiff = c.in_ok-b.ensures.stiff;
-      linear = c.in_ok-b.ensures.linear;
-      laws = c.in_ok-laws.ensures;
+      contacts = c.in_ok-contacts.ensures;
+      start = c.in_ok-start.ensures ∙ ap (map (λ (x : Contact). x.closed)) (c.deref.ensures.value ∙ c.in_ok-contacts.ensures);
       positive = rw (to_z-of_z fits) c.in_ok-lambda.ensures.positive;
-      factor =
-          factor_for c.in_ok-b.b c.args.order.now c.in_ok-factor.factor
-          (c.requires.nodes ∙ sym c.in_ok-b.ensures.structure.nodes) c.requires.plan.ordered c.in_ok-factor.ensures.own_order c.in_ok-factor.ensures.diagonal;
+      plan = c.requires.plan;
+      nodes = c.requires.nodes;
+      given = rw c.deref-2.ensures.value at c.factor_under-first.ensures.given;
+      own_order = c.factor_under-first.ensures.own_order;
+      fits = c.factor_under-first.ensures.fits;
     }
 
 pub returns-in_err-b-clause-given : goal.returns-in_err-b-clause-given
@@ -49,8 +52,3 @@ returns-clause-given c =
     rw (to_z-of_z fits)
     (base_is c.args.m.now (plan c.args.order.now c.args.parents.now) c.in_ok-b.b (entry c.in_ok-middles.middles) (entry c.in_ok-middles.radii) c.in_ok-lambda.lambda
     c.in_ok-b.ensures.given c.in_ok-middles.ensures.given c.in_ok-lambda.ensures.given)
-
-pub returns-clause-unshifted : goal.returns-clause-unshifted
-returns-clause-unshifted c =
-    unshifted_there (plan c.args.order.now c.args.parents.now) c.in_ok-b.b c.in_ok-middles.middles (entry c.in_ok-middles.radii) c.in_ok-factor.factor
-    c.in_ok-middles.ensures.given c.in_ok-factor.ensures.own_order c.in_ok-factor.ensures.given

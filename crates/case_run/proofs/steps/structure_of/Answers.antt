@@ -1,7 +1,7 @@
-use Rattle.std.proofs.Common.{Err, ap, ◌∙◌}
+use Rattle.std.proofs.Common.{Err, ap}
 use Rattle.std.proofs.lemmas.Result.{err_from_is_err_and}
 use Rattle.case_run.proofs.Chained.{tells_element}
-use Rattle.case_run.specs.Answers.{element_reason}
+use Rattle.case_run.specs.Reasons.{element_reason}
 use Rattle.lists.specs.Results.{named}
 use Rattle.case_run.proofs.GivenStructure.{structure_given}
 use Rattle.case_run.proofs.steps.structure_of.Goals as goal
@@ -13,6 +13,3 @@ returns-in_err-build-clause-given c =
 
 pub returns-clause-given : goal.returns-clause-given
 returns-clause-given c = ap (named element_reason) (structure_given c.args.m.now _ c.in_ok-build.ensures.structure)
-
-pub returns-clause-linear : goal.returns-clause-linear
-returns-clause-linear c = c.in_ok-build.ensures.structure.unilateral ∙ c.requires
