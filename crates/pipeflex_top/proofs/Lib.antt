@@ -1,6 +1,5 @@
 mod Determined
 mod Exist
-mod RestLemmas
 mod RunLemmas
 mod TableLemmas
 mod Told

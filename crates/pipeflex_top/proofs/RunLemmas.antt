@@ -18,7 +18,7 @@ use Rattle.pipeflex_top.specs.declared.commands.Command.TheVariants.{Members, Ec
 use Rattle.pipeflex_top.specs.Enclosure.{PrintsEnclosures}
 use Rattle.pipeflex_top.specs.Analysis.{IsReport}
 use Rattle.pipeflex_top.specs.Told.{IsReportText}
-use Rattle.pipeflex_top.specs.Run.{Answers, AnswersModel, Ask, AskAnalysis, plain, stated, Asks, Decides, HasForm, IsAnswer, IsOutput, IsRefusedFor, by_text, untaken, ReadsText, Takes, IsEnding}
+use Rattle.pipeflex_top.specs.Run.{Answers, AnswersModel, Ask, AskAnalysis, plain, stated, Asks, Decides, HasForm, IsAnswer, IsOutput, ReadsText, IsEnding}
 
 -- the bytes that were taken are the text up to the byte past the limit, so what is left follows them
 pub ReadsText-taken : (left after : Option (List ℕ)) (bytes : List ℕ) → Consumes left after bytes → IfSome left (λ text. bytes ≡ take 4194305 text) → ReadsText left after
@@ -70,13 +70,9 @@ refused_as text number line refused = elim (taken_cases text) [
   | inr long ↦ refused_long text (take 4194305 text) number line _ (sym (parsed-taken text)) long refused
 ]
 
-refused_for : (command : Command) (text : List ℕ) (number line : ℕ) → IsRefusedFor command (take 4194305 text) number line → IsRefusedFor command text number line
-refused_for command text _ _ (by_text number line refused) = by_text number line (refused_as text number line refused)
-refused_for command text _ _ (untaken m t accepted other) = untaken m t (accepted_as text m t accepted) other
-
-refused_whole : (command : Command) (left : Option (List ℕ)) (bytes : List ℕ) (number line : ℕ) → IfSome left (λ text. bytes ≡ take 4194305 text) → IsRefusedFor command bytes number line → IfSome left (λ text. IsRefusedFor command text number line)
-refused_whole command None bytes number line whole refused = tt
-refused_whole command (Some text) bytes number line whole refused = refused_for command text number line (subst (λ bs. IsRefusedFor command bs number line) whole refused)
+refused_whole : (left : Option (List ℕ)) (bytes : List ℕ) (number line : ℕ) → IfSome left (λ text. bytes ≡ take 4194305 text) → IsRefusedBy bytes number line → IfSome left (λ text. IsRefusedBy text number line)
+refused_whole None bytes number line whole refused = tt
+refused_whole (Some text) bytes number line whole refused = refused_as text number line (subst (λ bs. IsRefusedBy bs number line) whole refused)
 
 -- the answer to the bytes that were taken is the answer to the words and the source
 pub Answers-taken : (words : List (String Global)) (command : Command) (left after : Option (List ℕ)) (bytes output message : List ℕ) (status : Status)
@@ -89,7 +85,6 @@ Answers-taken words command left after bytes output message Done asked taken who
   model = answer.model;
   tree = answer.tree;
   text = accepted_whole left bytes answer.model answer.tree whole answer.text_is;
-  taken = answer.taken;
   written = answer.written;
   silent = answer.silent;
 }
@@ -100,7 +95,6 @@ Answers-taken words command left after bytes output message Uncertified asked ta
   model = answer.model;
   tree = answer.tree;
   text = accepted_whole left bytes answer.model answer.tree whole answer.text_is;
-  taken = answer.taken;
   written = answer.written;
   silent = answer.silent;
 }
@@ -109,7 +103,7 @@ Answers-taken words command left after bytes output message Refused asked taken 
   asked = asked;
   read = ReadsText-taken left after bytes taken whole;
   refusal = answer.refusal;
-  text = refused_whole command left bytes answer.refusal.number answer.refusal.line whole answer.refused;
+  text = refused_whole left bytes answer.refusal.number answer.refusal.line whole answer.refused;
   empty = answer.empty;
   line = answer.line;
 }
@@ -162,23 +156,13 @@ one_command words (Analyse n) Members a b = let letter : 109 ≡ 97 = first_lett
 one_command words (Analyse n) Echo a b = let letter : 101 ≡ 97 = first_letter words (codes "echo") n b a in absurd (omega (arith, letter))
 one_command words (Analyse n) (Analyse k) a b = ap Analyse (one_count words n k a b)
 
--- a text is that of one model
-one_model : (text : List ℕ) (first second : Lists) → parsed text ≡ Ok first → parsed text ≡ Ok second → first ≡ second
-one_model text first second a b = cc (a, b)
-
+-- an output is written for a text that is accepted, and for no other
 module _ (never : NeverAcceptedAndRefused) where
-  -- a text whose model a command takes isn't refused for it
-  not_both : (command : Command) (text : List ℕ) (m : Lists) (t : Fronts) (number line : ℕ) → IsAcceptedAs text m t → Takes command m → IsRefusedFor command text number line → ⊥
-  not_both command text m t _ _ accepted taken (by_text number line refused) = never text m t number line accepted refused
-  not_both command text m t _ _ accepted taken (untaken n u also other) = other (subst (Takes command) (one_model text m n accepted.text_is also.text_is) taken)
-
-  -- an output is written for a text whose model the command takes, and for no other
   Decides-output : (words : List (String Global)) (command : Command) (m : Lists) (t : Fronts) (text output : List ℕ) (status : Status)
-      → Asks words command → IsAcceptedAs text m t → Takes command m → IsOutput command m output status → Decides words status text
-  Decides-output words command m t text output status asked accepted taken written = record {
-    accepted = λ other n u asks is may. inl (subst (λ c. IsEnding c status) (one_command _ command other asked asks) (output_ends command m output status written));
-    refused = λ other number line asks refused.
-        absurd (not_both command text m t number line accepted taken (subst (λ c. IsRefusedFor c text number line) (sym (one_command _ command other asked asks)) refused));
+      → Asks words command → IsAcceptedAs text m t → IsOutput command m output status → Decides words status text
+  Decides-output words command m t text output status asked accepted written = record {
+    accepted = λ other n u asks is. inl (subst (λ c. IsEnding c status) (one_command _ command other asked asks) (output_ends command m output status written));
+    refused = λ other number line asks refused. absurd (never text m t number line accepted refused);
   }
 
   -- where the words have a form and no fault comes, the words and the text decide
@@ -186,20 +170,18 @@ module _ (never : NeverAcceptedAndRefused) where
       → Answers words left after output message status → HasForm words → status ≢ ReadFault → IfSome left (Decides words status)
   Decides-answer words None after output message status answers form sound = tt
   Decides-answer words (Some text) after output message Done answers form sound =
-      Decides-output words answers.command answers.model answers.tree text output Done answers.asked answers.text answers.taken answers.written
+      Decides-output words answers.command answers.model answers.tree text output Done answers.asked answers.text answers.written
   Decides-answer words (Some text) after output message Uncertified answers form sound =
-      Decides-output words answers.command answers.model answers.tree text output Uncertified answers.asked answers.text answers.taken answers.written
+      Decides-output words answers.command answers.model answers.tree text output Uncertified answers.asked answers.text answers.written
   Decides-answer words (Some text) after output message Refused answers form sound = record {
-    accepted = λ command m t asks accepted taken.
-        absurd (not_both command text m t answers.refusal.number answers.refusal.line accepted taken
-        (subst (λ c. IsRefusedFor c text answers.refusal.number answers.refusal.line) (one_command _ answers.command command answers.asked asks) answers.text));
+    accepted = λ command m t asks accepted. absurd (never text m t answers.refusal.number answers.refusal.line accepted answers.text);
     refused = λ command number line asks refused. inl refl;
   }
   Decides-answer words (Some text) after output message Usage answers form sound = absurd (answers.0 form)
   Decides-answer words (Some text) after output message ReadFault answers form sound = absurd (sound refl)
   Decides-answer words (Some text) after output message WriteFault answers form sound = absurd answers
   Decides-answer words (Some text) after output message NoMemory answers form sound = record {
-    accepted = λ command m t asks accepted taken. inr refl;
+    accepted = λ command m t asks accepted. inr refl;
     refused = λ command number line asks refused. inr refl;
   }
 

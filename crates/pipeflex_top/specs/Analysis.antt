@@ -1,5 +1,5 @@
 -- The report of an analysis.
-use Rattle.std.specs.Prelude.{◌≡◌, ℕ, ⊤, List, length, true, All}
+use Rattle.std.specs.Prelude.{◌≡◌, ℕ, ⊤, List, length, All}
 use Rattle.accepted_text.specs.Accepted.{IsModelTree, IsAcceptedAs}
 use Rattle.case_run.specs.Causes.{plan}
 use Rattle.case_run.specs.Answers.{answers_of}
@@ -7,19 +7,16 @@ use Rattle.elim_tree.specs.Fronts.{Fronts, parents_in}
 use Rattle.flex_io.specs.declared.Status.{Status}
 use Rattle.flex_io.specs.declared.Status.TheVariants.{Done, Uncertified}
 use Rattle.lists.specs.Order.{IsOrder}
-use Rattle.model_text.specs.Lines.{is_at_rest}
 use Rattle.model_types.specs.Lists.{Lists}
 use Rattle.model_types.specs.declared.answers.CaseAnswer.{CaseAnswer}
 use Rattle.model_types.specs.declared.answers.CaseAnswer.TheVariants as answer
 use Rattle.report.specs.Report.{report_of}
 
--- a model may be analysed in the order of a tree: the tree is the model's, its order has each node once, and nothing but forces acts
--- in the cases
+-- a model may be analysed in the order of a tree: the tree is the model's, and its order has each node once
 pub record MayAnalyse (m : Lists) (t : Fronts) : Type 0 where
   pub tree : IsModelTree m t
   pub permutation : IsOrder t.order
   pub nodes : length t.order ≡ length m.nodes
-  pub at_rest : All (λ c. is_at_rest c ≡ true) m.cases
 
 -- the case has a certificate
 abbrev pub IsCertifiedAnswer : CaseAnswer → Type 0

@@ -1,5 +1,5 @@
 -- What a run of the program does, by its words and the text that its source has left.
-use Rattle.std.specs.Prelude.{◌≡◌, ◌≢◌, ℕ, ◌≤◌, ◌⊎◌, ⊤, List, [], ◌∷◌, ◌++◌, Option, Some, IfSome, String, string_bytes, map, drop, codes}
+use Rattle.std.specs.Prelude.{◌≡◌, ◌≢◌, ℕ, ◌≤◌, ◌⊎◌, List, [], ◌∷◌, ◌++◌, Option, Some, IfSome, String, string_bytes, map, drop, codes}
 use Rattle.std.specs.Fmt.{decimal}
 use Rattle.std.specs.Global.{Global}
 use Rattle.accepted_text.specs.Accepted.{IsAcceptedAs, IsRefusedBy}
@@ -20,7 +20,6 @@ use Rattle.pipeflex_top.specs.Told.{IsReportText}
 use Rattle.pipeflex_top.specs.Enclosure.{PrintsEnclosures}
 use Rattle.pipeflex_top.specs.MemberTable.{table_of}
 use Rattle.pipeflex_top.specs.Refusal.{refusal_line}
-use Rattle.structure.specs.Restraints.{HasNoContacts}
 
 -- ---- the words
 
@@ -61,12 +60,6 @@ message_bytes (Built bytes) = bytes.items
 
 -- ---- the answer to a text
 
--- the models that a command takes: no analysis is made of one with contacts yet
-abbrev pub Takes : Command → Lists → Type 0
-Takes Members m = ⊤
-Takes Echo m = ⊤
-Takes (Analyse workers) m = HasNoContacts m
-
 -- what a command makes of a model, and how a run ends that has written it: the member table, the canonical text, or the
 -- report, in which each case that the text calls certified has every equilibrium between the numbers that stand there
 abbrev pub IsOutput : Command → Lists → List ℕ → Status → Type 0
@@ -74,24 +67,18 @@ IsOutput Members m output status = (output ≡ table_of m) × PrintsEnclosures m
 IsOutput Echo m output status = (output ≡ canonical m) × (status ≡ Done)
 IsOutput (Analyse workers) m output status = IsReport m output status × IsReportText m output
 
--- the text is refused for a command: as it stands, or by 17 at line 1 because the command doesn't take its model
-pub data IsRefusedFor (command : Command) (text : List ℕ) : ℕ → ℕ → Type 0 where
-  by_text : (number line : ℕ) → IsRefusedBy text number line → IsRefusedFor command text number line
-  untaken : (m : Lists) (t : Fronts) → IsAcceptedAs text m t → ¬ (Takes command m) → IsRefusedFor command text 17 1
-
--- the text is accepted with a model that the command takes, and the output is the command's on it
+-- the text is accepted with a model, and the output is the command's on it
 pub record IsAccepted (command : Command) (text output message : List ℕ) (status : Status) : Type 0 where
   pub model : Lists
   pub tree : Fronts
   pub text_is : IsAcceptedAs text model tree
-  pub taken : Takes command model
   pub written : IsOutput command model output status
   pub silent : message ≡ []
 
 -- the text is refused, and the message is the line that tells so
-pub record IsRefused (command : Command) (text output message : List ℕ) : Type 0 where
+pub record IsRefused (text output message : List ℕ) : Type 0 where
   pub refusal : Refusal
-  pub refused : IsRefusedFor command text refusal.number refusal.line
+  pub refused : IsRefusedBy text refusal.number refusal.line
   pub empty : output ≡ []
   pub line : message ≡ refusal_line refusal
 
@@ -99,7 +86,7 @@ pub record IsRefused (command : Command) (text output message : List ℕ) : Type
 abbrev pub IsAnswer : Command → List ℕ → List ℕ → List ℕ → Status → Type 0
 IsAnswer command text output message Done = IsAccepted command text output message Done
 IsAnswer command text output message Uncertified = IsAccepted command text output message Uncertified
-IsAnswer command text output message Refused = IsRefused command text output message
+IsAnswer command text output message Refused = IsRefused text output message
 IsAnswer command text output message NoMemory = (output ≡ []) × (message ≡ [])
 IsAnswer command text output message _ = ⊥
 
@@ -117,7 +104,6 @@ pub record AnswersModel (words : List (String Global)) (left after : Option (Lis
   pub model : Lists
   pub tree : Fronts
   pub text : IfSome left (λ text. IsAcceptedAs text model tree)
-  pub taken : Takes command model
   pub written : IsOutput command model output status
   pub silent : message ≡ []
 
@@ -127,7 +113,7 @@ pub record AnswersRefusal (words : List (String Global)) (left after : Option (L
   pub asked : Asks words command
   pub read : ReadsText left after
   pub refusal : Refusal
-  pub text : IfSome left (λ text. IsRefusedFor command text refusal.number refusal.line)
+  pub text : IfSome left (λ text. IsRefusedBy text refusal.number refusal.line)
   pub empty : output ≡ []
   pub line : message ≡ refusal_line refusal
 
@@ -159,8 +145,7 @@ IsEnding Members status = status ≡ Done
 IsEnding Echo status = status ≡ Done
 IsEnding (Analyse workers) status = (status ≡ Done) ⊎ (status ≡ Uncertified)
 
--- where nothing fails: for a text that is accepted with a model that the command takes, an ending of the command; Refused for a text
--- that is refused; or memory ran out
+-- where nothing fails: for a text that is accepted, an ending of the command; Refused for a text that is refused; or memory ran out
 pub record Decides (words : List (String Global)) (status : Status) (text : List ℕ) : Type 0 where
-  pub accepted : (command : Command) (m : Lists) (t : Fronts) → Asks words command → IsAcceptedAs text m t → Takes command m → IsEnding command status ⊎ (status ≡ NoMemory)
-  pub refused : (command : Command) (number line : ℕ) → Asks words command → IsRefusedFor command text number line → (status ≡ Refused) ⊎ (status ≡ NoMemory)
+  pub accepted : (command : Command) (m : Lists) (t : Fronts) → Asks words command → IsAcceptedAs text m t → IsEnding command status ⊎ (status ≡ NoMemory)
+  pub refused : (command : Command) (number line : ℕ) → Asks words command → IsRefusedBy text number line → (status ≡ Refused) ⊎ (status ≡ NoMemory)

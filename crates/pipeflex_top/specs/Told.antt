@@ -1,26 +1,29 @@
 -- What the lines of a report tell of every equilibrium: pairs of whole numbers between which each displacement and each load
--- of a restraint lies, in the unit of the report. It speaks of the text alone, of no bounds that were computed.
-use Rattle.std.specs.Prelude.{◌≡◌, ℕ, ◌+◌, ◌*◌, ◌^◌, ◌<◌, List, [], ◌∷◌, ◌++◌, length, codes, slice_index_or, ℤ, pos}
+-- of a restraint lies, in the unit of the report, and which contacts are open or closed. It speaks of the text alone, of no
+-- bounds that were computed.
+use Rattle.std.specs.Prelude.{◌≡◌, ℕ, ◌+◌, ◌*◌, ◌^◌, ◌<◌, nat_lt, if◌then◌else◌, ⊤, Bool, Option, Some, None, is_some, List, [], ◌∷◌, ◌++◌, length, codes, slice_index_or, ℤ, pos}
 use Rattle.std.specs.List.{flat_map}
-use Rattle.structure.specs.Elements.{element_member_count}
+use Rattle.structure.specs.Restraints.{first_of_restraint}
 use Rattle.case_run.specs.Equilibria.{OfEquilibria}
 use Rattle.flex_interval.specs.Fraction.{Fraction, Within, scaled}
 use Rattle.int_laws.specs.Matrices.{Vector}
-use Rattle.load_vectors.specs.Loads.{case_at}
-use Rattle.member_set.specs.Realisation.{Realisation, force_in, fraction, force_fraction}
+use Rattle.load_vectors.specs.Cases.{case_at}
+use Rattle.member_set.specs.Realisation.{Realisation, IsInState, force_in, fraction, force_fraction}
 use Rattle.model_types.specs.Lists.{Lists}
 use Rattle.model_types.specs.declared.answers.Bounds.{Bounds}
 use Rattle.model_types.specs.declared.answers.Cause.{Cause}
-use Rattle.report.specs.Report.{Word, bounds_lines, candidate_lines, end_lines, head_lines, loads_before, load_count_of, node_key, restraint_key, uncertified_words}
+use Rattle.report.specs.Report.{Word, bounds_lines, candidate_lines, end_lines, head_lines, load_count_of, node_key, restraint_key, state_count_of, uncertified_words}
 use Rattle.report.specs.Rounding.{ends_of_pair}
 use Rattle.text_words.specs.Fields.{line}
 
 -- what a report tells of one kind of record: how many records there are, what stands first in the line of each, how many
--- pairs follow, and the exact number of each pair in the unit of the report
+-- pairs follow, the member whose contact state stands before a pair where one does, and the exact number of each pair in the
+-- unit of the report
 pub record Telling : Type 0 where
   pub count : ℕ
   pub key : ℕ → List Word
   pub pairs : ℕ → ℕ
+  pub contact : ℕ → ℕ → Option ℕ
   pub number : Realisation → Vector → ℕ → ℕ → Fraction
 
 -- the six displacements of each node, in nanometres and nanoradians
@@ -29,33 +32,48 @@ node_displacements m = record {
   count = length m.nodes;
   key = node_key m.nodes;
   pairs = λ n. 6;
+  contact = λ n f. None;
   number = λ r exact n f. scaled (fraction (exact (6 * n + f)) r.stiffness.denominator) (pos (10 ^ 9)) (pos (2 ^ 56));
 }
 
--- the loads of each restraint, in mN and mN m
+-- the loads of each restraint, in mN and mN m, each behind the state of its member where the restraint has contacts
 abbrev pub restraint_loads : Lists → Telling
 restraint_loads m = record {
   count = length m.restraints;
   key = restraint_key m.restraints;
   pairs = load_count_of m.restraints;
-  number = λ r exact n f. scaled (force_fraction r.stiffness.denominator (force_in r exact (element_member_count m + (loads_before m.restraints n + f)))) (pos 1000) (pos (2 ^ 40));
+  contact = λ n f. if nat_lt f (state_count_of m.restraints n) then Some (first_of_restraint m n + f) else None;
+  number = λ r exact n f. scaled (force_fraction r.stiffness.denominator (force_in r exact (first_of_restraint m n + f))) (pos 1000) (pos (2 ^ 40));
 }
 
 -- what is told of a certified case, in its order
 abbrev pub tellings : Lists → List Telling
 tellings m = node_displacements m ∷ restraint_loads m ∷ []
 
--- each number that is told of is within its pair, in every equilibrium of every realisation under the loads of the case
-abbrev pub ArePaired : Lists → ℕ → Telling → (ℕ → ℕ → Bounds) → Type 0
-ArePaired m case t pair =
-    OfEquilibria m case (λ r exact. (n f : ℕ) → n < t.count → f < t.pairs n → Within (ends_of_pair (pair n f)) (t.number r exact n f))
+-- a state stands before exactly the pairs that have a contact
+abbrev pub HaveStates : Telling → (ℕ → ℕ → Option Bool) → Type 0
+HaveStates t state = (n f : ℕ) → n < t.count → f < t.pairs n → is_some (state n f) ≡ is_some (t.contact n f)
 
--- the lines tell all of these, one after another: a line for each record, with pairs that hold its numbers
+-- a contact is in the state that is told of it
+abbrev pub IsInStateTold : Realisation → Vector → Option ℕ → Option Bool → Type 0
+IsInStateTold r exact (Some member) (Some closed) = IsInState r exact member closed
+IsInStateTold r exact _ _ = ⊤
+
+-- in every equilibrium of every realisation under the loads of the case each number that is told of is within its pair, and
+-- each contact in its state
+abbrev pub ArePaired : Lists → ℕ → Telling → (ℕ → ℕ → Option Bool) → (ℕ → ℕ → Bounds) → Type 0
+ArePaired m case t state pair =
+    OfEquilibria m case (λ r exact. (n f : ℕ) → n < t.count → f < t.pairs n →
+    Within (ends_of_pair (pair n f)) (t.number r exact n f) × IsInStateTold r exact (t.contact n f) (state n f))
+
+-- the lines tell all of these, one after another: a line for each record, with pairs that hold its numbers and the states of its
+-- contacts before them
 abbrev pub AreTold : Lists → ℕ → List Telling → List (List Word) → Type 0
 AreTold m case [] lines = lines ≡ []
 AreTold m case (t ∷ others) lines =
-    (pair : ℕ → ℕ → Bounds) × (rest : List (List Word)) × (lines ≡ bounds_lines t.count t.key t.pairs pair ++ rest)
-    × ArePaired m case t pair × AreTold m case others rest
+    (state : ℕ → ℕ → Option Bool) × (pair : ℕ → ℕ → Bounds) × (rest : List (List Word))
+    × (lines ≡ bounds_lines t.count t.key t.pairs state pair ++ rest)
+    × HaveStates t state × ArePaired m case t state pair × AreTold m case others rest
 
 -- the lines of a case: that it is certified, and what is told of its equilibria; or that it is not, with a cause
 pub data IsCaseText (m : Lists) (case : ℕ) : List (List Word) → Type 0 where

@@ -2,7 +2,6 @@
 ghost use Rattle.std.specs.Prelude.{◌≡◌, ◌↔◌, IfOk, IsTrue, All};
 ghost use Rattle.pipeflex_top.specs.Analysis.{MayAnalyse, IsReport, EndsWith, IsCertifiedAnswer};
 ghost use Rattle.pipeflex_top.specs.Told.{IsReportText};
-ghost use Rattle.structure.specs.Restraints.{HasNoContacts};
 
 use crate::written::Written;
 use case_run::answers;
@@ -12,16 +11,16 @@ use model_types::{CaseAnswer, Model, NoMemory};
 use report::bytes;
 use std::alloc::Global;
 
-/// The report of a model without contacts, whose nodes are eliminated in the order of its assembly tree, and how the run ends that has written
+/// The report of a model, whose nodes are eliminated in the order of its assembly tree, and how the run ends that has written
 /// it.
 pub fn analysis(alloc: Global, model: &Model, tree: &Tree) -> Result<Written, NoMemory>
-    requires model { MayAnalyse model.now tree.now }
-    requires no_contacts { HasNoContacts model.now }
+    requires { MayAnalyse model.now tree.now }
     ensures { IfOk result (λ written. IsReport model.now written.bytes.items written.status
         × IsReportText model.now written.bytes.items) }
 {
     // The laws of what the answers and a printed pair hold.
     structure::models_have_their_members();
+    structure::states_of_restraints();
     case_run::answers_hold();
     report::printed_pairs_hold();
     // What every model keeps: its rules.

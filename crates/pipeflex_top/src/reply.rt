@@ -1,8 +1,8 @@
 //! What the program has to say, before the first byte of it is written.
-ghost use Rattle.std.specs.Prelude.{◌≡◌, ◌≤◌, ◌↔◌, ℕ, List, [], IfOk, IsTrue};
-ghost use Rattle.accepted_text.specs.Accepted.{IsAcceptedAs};
+ghost use Rattle.std.specs.Prelude.{◌≡◌, ◌≤◌, ℕ, List, [], IfOk};
+ghost use Rattle.accepted_text.specs.Accepted.{IsAcceptedAs, IsRefusedBy};
 ghost use Rattle.pipeflex_top.specs.Analysis.{MayAnalyse};
-ghost use Rattle.pipeflex_top.specs.Run.{Answers, HasForm, IsAnswer, IsOutput, IsRefusedFor, Takes, TellsReadFault, message_bytes};
+ghost use Rattle.pipeflex_top.specs.Run.{Answers, HasForm, IsAnswer, IsOutput, TellsReadFault, message_bytes};
 
 use crate::analysis::analysis;
 use crate::commands::{Command, command_of};
@@ -12,10 +12,9 @@ use crate::written::Written;
 use accepted_text::{AcceptFault, accept};
 use elim_tree::Tree;
 use flex_io::{Source, Status, TakeFault, take_all};
-use model_text::{cases_are_at_rest, echo};
+use model_text::echo;
 use model_types::{Model, NoMemory};
 use std::alloc::{AllocError, Global};
-use structure::has_no_contacts;
 
 /// The most bytes that a text may have.
 const LIMIT: usize = 4_194_304;
@@ -76,8 +75,6 @@ pub fn reply_to<S: Source>(alloc: Global, words: &[String], source: &mut S) -> R
 fn answer(alloc: Global, command: Command, text: &[u8]) -> Reply
     ensures { IsAnswer command text.now result.output.items (message_bytes result.message) result.status }
 {
-    // The law that the cases of a text are at rest.
-    cases_are_at_rest();
     match accept(alloc, text) {
         Ok(accepted) => reply_on(alloc, command, &accepted.model, &accepted.tree),
         Err(AcceptFault::Refused { number, line }) => refused(alloc, number, line),
@@ -88,30 +85,6 @@ fn answer(alloc: Global, command: Command, text: &[u8]) -> Reply
 // The reply to a text that is accepted with this model and tree.
 fn reply_on(alloc: Global, command: Command, model: &Model, tree: &Tree) -> Reply
     requires { MayAnalyse model.now tree.now }
-    ensures { (text : List ℕ) → IsAcceptedAs text model.now tree.now
-        → IsAnswer command text result.output.items (message_bytes result.message) result.status }
-{
-    match takes(alloc, command, model) {
-        Ok(true) => reply_with(alloc, command, model, tree),
-        Ok(false) => refused(alloc, 17, 1),
-        Err(AllocError) => line_only(alloc, Status::NoMemory, b""),
-    }
-}
-
-// Whether the command takes the model.
-fn takes(alloc: Global, command: Command, model: &Model) -> Result<bool, NoMemory>
-    ensures { IfOk result (λ taken. IsTrue taken ↔ Takes command model.now) }
-{
-    match command {
-        Command::Members | Command::Echo => Ok(true),
-        Command::Analyse { .. } => has_no_contacts(alloc, model),
-    }
-}
-
-// The reply to a text that is accepted with this model, which the command takes, and this tree.
-fn reply_with(alloc: Global, command: Command, model: &Model, tree: &Tree) -> Reply
-    requires model { MayAnalyse model.now tree.now }
-    requires taken { Takes command model.now }
     ensures { (text : List ℕ) → IsAcceptedAs text model.now tree.now
         → IsAnswer command text result.output.items (message_bytes result.message) result.status }
 {
@@ -127,8 +100,7 @@ fn reply_with(alloc: Global, command: Command, model: &Model, tree: &Tree) -> Re
 
 // What the command makes of a model.
 fn output(alloc: Global, command: Command, model: &Model, tree: &Tree) -> Result<Written, NoMemory>
-    requires model { MayAnalyse model.now tree.now }
-    requires taken { Takes command model.now }
+    requires { MayAnalyse model.now tree.now }
     ensures { IfOk result (λ written. IsOutput command model.now written.bytes.items written.status) }
 {
     match command {
@@ -150,7 +122,7 @@ fn done(bytes: Vec<u8>) -> Result<Written, NoMemory>
 
 // The reply to a text that is refused by this number at this line.
 fn refused(alloc: Global, number: u8, line: u32) -> Reply
-    ensures { (command : Command) → (text : List ℕ) → IsRefusedFor command text number line
+    ensures { (command : Command) → (text : List ℕ) → IsRefusedBy text number line
         → IsAnswer command text result.output.items (message_bytes result.message) result.status }
 {
     match refusal_line(alloc, number, line) {

@@ -1,5 +1,5 @@
 -- A printed pair holds each number that its bounds hold; and a modest number times a scale fits.
-use Rattle.std.proofs.Common.{◌≡◌, ◌^◌, ℤ, pos, ◌*ℤ◌, neg_ℤ, ◌≤ℤ◌, FitsSigned, arith}
+use Rattle.std.proofs.Common.{◌^◌, ℤ, pos, ◌*ℤ◌, neg_ℤ, ◌≤ℤ◌, FitsSigned, arith}
 use Rattle.std.proofs.lemmas.Int.{ints}
 use Rattle.std.specs.Int.{w128}
 use Rattle.int_laws.proofs.Sums.{int_sums}
@@ -8,8 +8,7 @@ use Rattle.int_laws.proofs.Products.{mul_positive, le_mul, mul_comm, mul_right_c
 use Rattle.int_laws.proofs.DivisionLemmas.{floor_of-is, ceil_of-is, below_divided, above_divided}
 use Rattle.flex_interval.specs.Fraction.{scaled}
 use Rattle.model_types.specs.Fits.{IsModest}
-use Rattle.report.specs.Report.{printed}
-use Rattle.report.specs.Rounding.{IsScale, PrintedHolds, ends_of_pair}
+use Rattle.report.specs.Rounding.{IsScale, PrintedHolds}
 
 -- a modest number times the n of a scale fits
 pub scaled_fits : (z n m : ℤ) → IsModest z → IsScale n m → FitsSigned w128 (z *ℤ n)

@@ -1,15 +1,15 @@
 -- The report of an analysis: its lines, word by word. Displacements are written in nanometres and nanoradians, loads in mN
 -- and mN m, each pair rounded outwards.
-use Rattle.std.specs.Prelude.{ℕ, ◌+◌, ◌*◌, ◌^◌, ◌==◌, List, [], ◌∷◌, ◌++◌, length, take, drop, map, codes, ℤ, pos, ◌*ℤ◌, if◌then◌else◌, Bool, false, true}
+use Rattle.std.specs.Prelude.{ℕ, ◌+◌, ◌*◌, ◌^◌, ◌==◌, nat_lt, Option, Some, None, List, [], ◌∷◌, ◌++◌, length, take, drop, map, codes, ℤ, pos, ◌*ℤ◌, if◌then◌else◌, Bool, false, true}
 use Rattle.std.specs.Fmt.{decimal, signed_decimal}
-use Rattle.std.specs.List.{flat_map, slice_index_or, sum_by}
+use Rattle.std.specs.List.{flat_map, slice_index_or}
 use Rattle.int_laws.specs.Division.{floor_of, ceil_of, nearest_of}
 use Rattle.lists.specs.Listed.{listed}
 use Rattle.model_types.specs.Lists.{Lists}
 use Rattle.model_types.specs.declared.records.Node.{Node}
 use Rattle.model_types.specs.declared.records.Case.{Case}
 use Rattle.model_types.specs.declared.records.Restraint.{Restraint}
-use Rattle.model_types.specs.MemberCounts.{restraint_member_count, restraints_member_count}
+use Rattle.model_types.specs.MemberCounts.{restraint_member_count, restraints_member_count, restraint_state_count, restraints_state_count}
 use Rattle.model_types.specs.declared.answers.Bounds.{Bounds}
 use Rattle.model_types.specs.declared.answers.Cause.{Cause}
 use Rattle.model_types.specs.declared.answers.Cause.TheVariants as causes
@@ -48,13 +48,31 @@ bounds_at bounds place = slice_index_or bounds place (record { lo = pos 0; hi = 
 abbrev pub key_words : Word → List Word → ℕ → List Word
 key_words kind names n = kind ∷ slice_index_or names n [] ∷ []
 
--- the line of a record: its key, and its pairs behind it
-abbrev pub bounds_line : (ℕ → List Word) → (ℕ → ℕ) → (ℕ → ℕ → Bounds) → ℕ → List Word
-bounds_line key pairs pair n = key n ++ flat_map bounds_words (listed (pairs n) (pair n))
+-- a contact state in a word
+abbrev pub state_word : Bool → Word
+state_word true = codes "closed"
+state_word false = codes "open"
+
+-- the word of the state that stands before a pair, where one does
+abbrev pub state_words : Option Bool → List Word
+state_words None = []
+state_words (Some closed) = state_word closed ∷ []
+
+-- a pair behind its state
+abbrev pub told_words : Option Bool → Bounds → List Word
+told_words state b = state_words state ++ bounds_words b
+
+-- the line of a record: its key, and its pairs behind it, each behind its state
+abbrev pub bounds_line : (ℕ → List Word) → (ℕ → ℕ) → (ℕ → ℕ → Option Bool) → (ℕ → ℕ → Bounds) → ℕ → List Word
+bounds_line key pairs state pair n = key n ++ flat_map (λ words. words) (listed (pairs n) (λ f. told_words (state n f) (pair n f)))
 
 -- a line for each record
-abbrev pub bounds_lines : ℕ → (ℕ → List Word) → (ℕ → ℕ) → (ℕ → ℕ → Bounds) → List (List Word)
-bounds_lines count key pairs pair = listed count (bounds_line key pairs pair)
+abbrev pub bounds_lines : ℕ → (ℕ → List Word) → (ℕ → ℕ) → (ℕ → ℕ → Option Bool) → (ℕ → ℕ → Bounds) → List (List Word)
+bounds_lines count key pairs state pair = listed count (bounds_line key pairs state pair)
+
+-- no pair has a state
+abbrev pub no_state : ℕ → ℕ → Option Bool
+no_state n f = None
 
 -- the bounds of displacement f of node n, in the unit of the report
 abbrev pub node_bounds : List Bounds → ℕ → ℕ → Bounds
@@ -65,7 +83,7 @@ node_key nodes = key_words (codes "node") (map (λ r. r.name) nodes)
 
 -- the lines of the nodes, each with the bounds of its six displacements
 abbrev pub node_lines : List Node → List Bounds → List (List Word)
-node_lines nodes u = bounds_lines (length nodes) (node_key nodes) (λ n. 6) (node_bounds u)
+node_lines nodes u = bounds_lines (length nodes) (node_key nodes) (λ n. 6) no_state (node_bounds u)
 
 -- how many loads restraint n has, and how many the restraints before it
 abbrev pub load_count_of : List Restraint → ℕ → ℕ
@@ -78,13 +96,26 @@ loads_before restraints n = restraints_member_count (take n restraints)
 abbrev pub restraint_bounds : List Restraint → List Bounds → ℕ → ℕ → Bounds
 restraint_bounds restraints loads n f = printed (pos 1000) (pos (2 ^ 40)) (bounds_at loads (loads_before restraints n + f))
 
+-- how many states restraint n has, and how many the restraints before it
+abbrev pub state_count_of : List Restraint → ℕ → ℕ
+state_count_of restraints n = slice_index_or (map (λ r. restraint_state_count r.kind) restraints) n 0
+
+abbrev pub states_before : List Restraint → ℕ → ℕ
+states_before restraints n = restraints_state_count (take n restraints)
+
+-- the state of load f of restraint n, where it has one
+abbrev pub restraint_state : List Restraint → List Bool → ℕ → ℕ → Option Bool
+restraint_state restraints states n f =
+    if nat_lt f (state_count_of restraints n) then Some (slice_index_or states (states_before restraints n + f) false) else None
+
 abbrev pub restraint_key : List Restraint → ℕ → List Word
 restraint_key restraints = key_words (codes "restraint") (map (λ r. r.name) restraints)
 
--- the lines of the restraints, each with the bounds of its loads
-abbrev pub restraint_lines : List Restraint → List Bounds → List (List Word)
-restraint_lines restraints loads =
-    bounds_lines (length restraints) (restraint_key restraints) (load_count_of restraints) (restraint_bounds restraints loads)
+-- the lines of the restraints, each with the states and the bounds of its loads
+abbrev pub restraint_lines : List Restraint → List Bounds → List Bool → List (List Word)
+restraint_lines restraints loads states =
+    bounds_lines (length restraints) (restraint_key restraints) (load_count_of restraints) (restraint_state restraints states)
+    (restraint_bounds restraints loads)
 
 -- ---- an uncertified case
 
@@ -139,7 +170,7 @@ candidate_lines m _ guess = []
 -- the lines of a case
 abbrev pub answer_lines : Lists → Case → CaseAnswer → List (List Word)
 answer_lines m c (Certified u loads states) =
-    (codes "case" ∷ c.name ∷ codes "certified" ∷ []) ∷ node_lines m.nodes u ++ restraint_lines m.restraints loads
+    (codes "case" ∷ c.name ∷ codes "certified" ∷ []) ∷ node_lines m.nodes u ++ restraint_lines m.restraints loads states
 answer_lines m c (Uncertified cause guess) =
     uncertified_words m c cause ∷ candidate_lines m cause guess
 

@@ -72,10 +72,10 @@ fn push_answer(
     ensures kept { OnErr result (StartsWith out.new.items out.old.items) }
 {
     match answer {
-        CaseAnswer::Certified { u, loads, .. } => {
+        CaseAnswer::Certified { u, loads, states } => {
             push_line(out, &[b"case", case.name.bytes(), b"certified"])?;
             push_nodes(out, m.nodes(), u.as_slice())?;
-            push_restraints(out, m.restraints(), loads.as_slice())?;
+            push_restraints(out, m.restraints(), loads.as_slice(), states.as_slice())?;
         }
         CaseAnswer::Uncertified { cause, guess } => {
             push_uncertified(out, m, case, cause)?;

@@ -2,8 +2,9 @@ ghost use Rattle.std.specs.Prelude.{◌≡◌, ◌*◌, ◌∷◌, ◌++◌, cod
 ghost use Rattle.std.specs.Io.{StartsWith};
 ghost use Rattle.std.specs.List.{flat_map};
 ghost use Rattle.model_types.specs.Fits.{AreModest, IsModest};
-ghost use Rattle.report.specs.Report.{guess_lines, guess_word, node_lines, pair, restraint_lines};
-ghost use Rattle.model_types.specs.MemberCounts.{restraints_member_count};
+ghost use Rattle.report.specs.Report.{guess_lines, guess_word, node_lines, pair, restraint_lines, state_words};
+ghost use Rattle.report.specs.Rows.{told_pairs};
+ghost use Rattle.model_types.specs.MemberCounts.{restraints_member_count, restraints_state_count};
 ghost use Rattle.report.specs.Rounding.{IsScale};
 ghost use Rattle.report.specs.Words.{spaced};
 ghost use Rattle.text_words.specs.Fields.{line};
@@ -31,6 +32,7 @@ pub(crate) fn push_nodes(out: &mut Vec<u8>, nodes: &[Node], u: &[Bounds]) -> Res
             out,
             b"node",
             node.name.bytes(),
+            &[],
             row,
             NANO,
             DISPLACEMENT_UNITS,
@@ -40,30 +42,35 @@ pub(crate) fn push_nodes(out: &mut Vec<u8>, nodes: &[Node], u: &[Bounds]) -> Res
     Ok(())
 }
 
-/// Writes a line for each restraint: `restraint`, its name and the bounds of its loads.
+/// Writes a line for each restraint: `restraint`, its name and the bounds of its loads, behind their contact states where it has
+/// some.
 pub(crate) fn push_restraints(
     out: &mut Vec<u8>,
     restraints: &[Restraint],
     loads: &[Bounds],
+    states: &[bool],
 ) -> Result<(), NoMemory>
     requires one_each { length loads.now ≡ restraints_member_count restraints.now }
+    requires one_state_each { length states.now ≡ restraints_state_count restraints.now }
     requires modest { AreModest loads.now }
-    ensures written { OnOk result (out.new.items ≡ out.old.items ++ flat_map line (restraint_lines restraints.now loads.now)) }
+    ensures written { OnOk result (out.new.items ≡ out.old.items ++ flat_map line (restraint_lines restraints.now loads.now states.now)) }
     ensures kept { OnErr result (StartsWith out.new.items out.old.items) }
 {
-    let mut rest = loads;
+    let (mut rest, mut rest_of_states) = (loads, states);
     for restraint in restraints {
-        let count = restraint.kind.member_count();
-        let (own, others) = rest.split_at(count);
+        let (own, others) = rest.split_at(restraint.kind.member_count());
+        let (own_states, other_states) = rest_of_states.split_at(restraint.kind.state_count());
         push_row(
             out,
             b"restraint",
             restraint.name.bytes(),
+            own_states,
             own,
             MILLI,
             LOAD_UNITS,
         )?;
         rest = others;
+        rest_of_states = other_states;
     }
     Ok(())
 }
@@ -108,37 +115,58 @@ fn push_guess_words(out: &mut Vec<u8>, u: &[i128]) -> Result<(), NoMemory>
     Ok(())
 }
 
-/// Writes a line: its first word, a name, and each pair of bounds in a unit that is `m / n` of theirs.
+/// Writes a line: its first word, a name, and each pair of bounds in a unit that is `m / n` of theirs, the first ones behind
+/// states.
 fn push_row(
     out: &mut Vec<u8>,
     first: &[u8],
     name: &[u8],
+    states: &[bool],
     bounds: &[Bounds],
     n: i128,
     m: i128,
 ) -> Result<(), NoMemory>
     requires modest { AreModest bounds.now }
     requires scale { IsScale n m }
-    ensures written { OnOk result (out.new.items ≡ out.old.items ++ line (first.now ∷ name.now ∷ flat_map (pair n m) bounds.now)) }
+    ensures written { OnOk result (out.new.items ≡ out.old.items ++ line (first.now ∷ name.now ∷ told_pairs n m states.now bounds.now)) }
     ensures kept { OnErr result (StartsWith out.new.items out.old.items) }
 {
     out.extend_from_slice(first)?;
     push_word(out, name)?;
-    push_pairs(out, bounds, n, m)?;
+    push_pairs(out, states, bounds, n, m)?;
     out.push(b'\n')?;
     Ok(())
 }
 
-fn push_pairs(out: &mut Vec<u8>, bounds: &[Bounds], n: i128, m: i128) -> Result<(), NoMemory>
+fn push_pairs(
+    out: &mut Vec<u8>,
+    states: &[bool],
+    bounds: &[Bounds],
+    n: i128,
+    m: i128,
+) -> Result<(), NoMemory>
     requires modest { AreModest bounds.now }
     requires scale { IsScale n m }
-    ensures written { OnOk result (out.new.items ≡ out.old.items ++ spaced (flat_map (pair n m) bounds.now)) }
+    ensures written { OnOk result (out.new.items ≡ out.old.items ++ spaced (told_pairs n m states.now bounds.now)) }
     ensures kept { OnErr result (StartsWith out.new.items out.old.items) }
 {
-    for pair in bounds {
+    for (f, pair) in bounds.iter().enumerate() {
+        push_state(out, states.get(f).copied())?;
         push_pair(out, pair, n, m)?;
     }
     Ok(())
+}
+
+/// Writes a contact state, where there is one.
+fn push_state(out: &mut Vec<u8>, closed: Option<bool>) -> Result<(), NoMemory>
+    ensures written { OnOk result (out.new.items ≡ out.old.items ++ spaced (state_words closed)) }
+    ensures kept { OnErr result (StartsWith out.new.items out.old.items) }
+{
+    match closed {
+        Some(true) => push_word(out, b"closed"),
+        Some(false) => push_word(out, b"open"),
+        None => Ok(()),
+    }
 }
 
 /// Writes bounds in a unit that is `m / n` of theirs, rounded outwards.

@@ -8,18 +8,14 @@ use Rattle.case_run.specs.Answers.{answer_of, answers_of}
 use Rattle.model_types.specs.Fits.{AreAnswersOf}
 use Rattle.pipeflex_top.specs.Analysis.{EndsWith, analysis_of}
 use Rattle.report.specs.Report.{report_of}
-use Rattle.pipeflex_top.proofs.RestLemmas.{cases_alone}
 use Rattle.pipeflex_top.proofs.Told.{report_told}
 use Rattle.pipeflex_top.proofs.analysis.analysis.Goals as goal
 
-pub answers-requires-clause-forces_alone : goal.answers-requires-clause-forces_alone
-answers-requires-clause-forces_alone c = cases_alone c.args.model.now c.requires.model.at_rest
-
 pub answers-requires-clause-order : goal.answers-requires-clause-order
-answers-requires-clause-order c = subst IsOrder (sym c.order.ensures) c.requires.model.permutation
+answers-requires-clause-order c = subst IsOrder (sym c.order.ensures) c.requires.permutation
 
 pub answers-requires-clause-nodes : goal.answers-requires-clause-nodes
-answers-requires-clause-nodes c = ap length c.order.ensures ∙ c.requires.model.nodes
+answers-requires-clause-nodes c = ap length c.order.ensures ∙ c.requires.nodes
 
 pub answers-requires-clause-parents_count : goal.answers-requires-clause-parents_count
 answers-requires-clause-parents_count c =
@@ -46,11 +42,11 @@ returns c =
     let report : c.in_ok-bytes.bytes.items ≡ report_of model (analysis_of model tree) = subst (λ answers. c.in_ok-bytes.bytes.items ≡ report_of model answers) given written in (
       record {
         tree = tree;
-        tree_is = c.requires.model.tree;
+        tree_is = c.requires.tree;
         written = report;
         ends = subst (λ answers. EndsWith answers c.ending_with-status.result) (c.deref.ensures.value ∙ given) c.ending_with-status.ensures;
       },
-      report_told c.printed_pairs_hold.ensures c.models_have_their_members.ensures model (analysis_of model tree) c.in_ok-bytes.bytes.items
+      report_told c.printed_pairs_hold.ensures c.models_have_their_members.ensures c.states_of_restraints.ensures.counted c.states_of_restraints.ensures.in_order model (analysis_of model tree) c.in_ok-bytes.bytes.items
           (length-map-range_with_len (answer_of model (plan tree.order (parents_in tree))) 0 (length model.cases))
-          (c.answers_hold.ensures.all model (plan tree.order (parents_in tree)) c.nodes-nodes.ensures.model c.requires.model.nodes) report,
+          (c.answers_hold.ensures.all model (plan tree.order (parents_in tree)) c.nodes-nodes.ensures.model c.requires.nodes) report,
     )

@@ -5,7 +5,7 @@ use Rattle.lists.specs.Listed.{listed}
 use Rattle.text_words.specs.Fields.{line}
 use Rattle.model_types.specs.declared.answers.Bounds.{Bounds}
 use Rattle.model_types.specs.Fits.{IsModest}
-use Rattle.report.specs.Report.{bounds_line, node_bounds, node_key}
+use Rattle.report.specs.Report.{bounds_line, no_state, node_bounds, node_key}
 use Rattle.report.proofs.RowLemmas.{node_written}
 use Rattle.report.proofs.rows.push_nodes.Goals as goal
 
@@ -31,4 +31,4 @@ loop-node-preserved c =
 pub returns-clause-written : goal.returns-clause-written
 returns-clause-written c =
     let whole : c.loop-node.node-index ≡ length c.args.nodes.now = omega (arith, c.loop-node.invariant.inside, c.loop-node-test.false) in
-    subst (λ count. c.loop-node.out.items ≡ c.args.out.now.items ++ flat_map line (listed count (bounds_line (node_key c.args.nodes.now) (λ _. 6) (node_bounds c.args.u.now)))) whole c.loop-node.invariant.written
+    subst (λ count. c.loop-node.out.items ≡ c.args.out.now.items ++ flat_map line (listed count (bounds_line (node_key c.args.nodes.now) (λ _. 6) no_state (node_bounds c.args.u.now)))) whole c.loop-node.invariant.written
