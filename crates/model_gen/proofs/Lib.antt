@@ -1,0 +1,6 @@
+mod Canonical
+mod Lengths
+mod Names
+mod Pieces
+mod Places
+mod Rules

@@ -1,0 +1,5 @@
+use Rattle.model_gen.proofs.Pieces.{node_written}
+use Rattle.model_gen.proofs.rows.push_node.Goals as goal
+
+pub returns : goal.returns
+returns c = node_written c.args.out.now.items c.push_numbered.new.out.items c.push_numbered-2.new.out.items c.extend_from_slice.new.self.items c.args.i c.push_numbered-3.new.out.items c.in_ok-push_numbered.ensures (rw c.east.ensures at c.in_ok-push_numbered-2.ensures) (rw c.north.ensures at c.in_ok-push_numbered-3.ensures) c.in_ok-extend_from_slice.ensures.items

@@ -1,0 +1,3 @@
+-- Generated models, and their texts.
+pub mod GeneratedModel
+pub mod Text
