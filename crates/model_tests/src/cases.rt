@@ -1,11 +1,12 @@
-//! A cantilever of 1 m: at rest, with a load at its tip, with a load that is too large, and on an anchor that is too stiff.
+//! A cantilever of 1 m: at rest, with a load at its tip, with a load that is too large, on an anchor that is too stiff, and with
+//! its tip on a support that holds one way.
 ghost use Rattle.std.specs.Prelude.{◌≡◌, ◌<◌, length};
 ghost use Rattle.elimination.specs.Elimination.{AreParents};
 ghost use Rattle.lists.specs.Order.{IsOrder};
 
-use crate::makers::{check_all_forces, check_no_contacts, model};
+use crate::makers::model;
 use case_run::answers;
-use model_types::{Bounds, CaseAnswer, Cause, Model, NodeId};
+use model_types::{Bounds, CaseAnswer, Cause, Model, NodeId, RestraintId};
 use std::alloc::Global;
 use std::process::Abort;
 
@@ -38,8 +39,6 @@ force great b 0 0 1000000000000 0 0 0
 // The answers of a model of two nodes.
 fn answers_of(rt: &impl Abort, alloc: Global, m: &Model) -> Vec<CaseAnswer> {
     assert!(rt; m.nodes().len() == 2);
-    check_all_forces(rt, m);
-    check_no_contacts(rt, alloc, m);
     answers(alloc, m, &order(), &parents()).expect(rt, "memory")
 }
 
@@ -71,6 +70,17 @@ fn ceiling(rt: &impl Abort, number: i128, unit: (i128, u32)) -> i128
         .expect(rt, "a number")
 }
 
+// The bounds at a place, rounded outward to a unit.
+fn outward(rt: &impl Abort, bounds: &[Bounds], place: usize, unit: (i128, u32)) -> (i128, i128)
+    requires { unit.1 < 100 }
+{
+    assert!(rt; place < bounds.len());
+    (
+        floor(rt, bounds[place].lo, unit),
+        ceiling(rt, bounds[place].hi, unit),
+    )
+}
+
 // Bounds rounded outward to a unit are these.
 fn bound(rt: &impl Abort, bounds: &[Bounds], unit: (i128, u32), outward: &[(i128, i128)])
     requires { unit.1 < 100 }
@@ -89,12 +99,13 @@ fn is_bounded(
     answer: &CaseAnswer,
     displacements: &[(i128, i128)],
     forces: &[(i128, i128)],
+    closed: &[bool],
 ) {
     match answer {
         CaseAnswer::Certified { u, loads, states } => {
             bound(rt, u.as_slice(), NANOMETRES, displacements);
             bound(rt, loads.as_slice(), MILLINEWTONS, forces);
-            assert!(rt; states.is_empty());
+            assert!(rt; states.as_slice() == closed, "states");
         }
         CaseAnswer::Uncertified { .. } => assert!(rt; false, "no bounds"),
     }
@@ -123,7 +134,7 @@ fn tip(rt: HostRuntime) {
 
 fn judge_tip(rt: &impl Abort, found: &[CaseAnswer]) {
     assert!(rt; found.len() == 3);
-    is_bounded(rt, &found[0], &[(0, 0); 12], &[(0, 0); 6]);
+    is_bounded(rt, &found[0], &[(0, 0); 12], &[(0, 0); 6], &[]);
     is_bounded(
         rt,
         &found[1],
@@ -149,6 +160,7 @@ fn judge_tip(rt: &impl Abort, found: &[CaseAnswer]) {
             (999_999, 1_000_001),
             AROUND,
         ],
+        &[],
     );
     let cause = cause_of(rt, &found[2]);
     assert!(rt;
@@ -182,5 +194,133 @@ fn judge_stiff(rt: &impl Abort, found: &[CaseAnswer]) {
                 })
             )
         );
+    }
+}
+
+// The cantilever on its anchor at rest, with 1000 N down at its tip, and with 1000 N up there.
+const SUPPORTED: &str = "node a 0 0 0
+node b 1000000 0 0
+straight p a b s
+anchor A a - -
+case rest 0 0 0 0 0 0
+case tip 0 0 0 0 0 0
+case up 0 0 0 0 0 0
+force tip b 0 0 -1000000 0 0 0
+force up b 0 0 1000000 0 0 0
+";
+
+// The answers of the cantilever with a support at its tip.
+fn supported(rt: &impl Abort, alloc: Global, support: &str) -> Vec<CaseAnswer> {
+    let m = model(rt, alloc, &[SUPPORTED, support]);
+    answers_of(rt, alloc, &m)
+}
+
+// A support under the tip touches at rest without force, which counts as open; it takes all but some 2 N of what pushes it
+// down, and lets the tip go up as if it weren't there.
+#[test]
+fn support(rt: HostRuntime) {
+    let found = supported(&rt, rt.alloc(), "oneway R b 0 0 -1 0 -\n");
+    assert!(&rt; found.len() == 3);
+    is_bounded(&rt, &found[0], &[(0, 0); 12], &[(0, 0); 7], &[false]);
+    judge_closed(&rt, &found[1]);
+    judge_open(&rt, &found[2]);
+}
+
+fn judge_closed(rt: &impl Abort, answer: &CaseAnswer) {
+    match answer {
+        CaseAnswer::Certified { u, loads, states } => {
+            assert!(rt;
+                outward(rt, u.as_slice(), 8, NANOMETRES) == (-999, -998),
+                "the tip"
+            );
+            let load = outward(rt, loads.as_slice(), 6, MILLINEWTONS);
+            assert!(rt; load == (998_264, 998_265), "the support");
+            assert!(rt; states.as_slice() == [true].as_slice(), "closed");
+        }
+        CaseAnswer::Uncertified { .. } => assert!(rt; false, "no bounds"),
+    }
+}
+
+fn judge_open(rt: &impl Abort, answer: &CaseAnswer) {
+    match answer {
+        CaseAnswer::Certified { u, loads, states } => {
+            assert!(rt;
+                outward(rt, u.as_slice(), 8, NANOMETRES) == (575_285, 575_286),
+                "the tip"
+            );
+            assert!(rt;
+                outward(rt, u.as_slice(), 10, NANOMETRES) == (-862_729, -862_728),
+                "its turn"
+            );
+            assert!(rt;
+                outward(rt, loads.as_slice(), 6, MILLINEWTONS) == (0, 0),
+                "the support"
+            );
+            assert!(rt; states.as_slice() == [false].as_slice(), "open");
+        }
+        CaseAnswer::Uncertified { .. } => assert!(rt; false, "no bounds"),
+    }
+}
+
+// The same pushed down, with a gap of 1 mm under the tip: it doesn't reach it.
+#[test]
+fn wide_gap(rt: HostRuntime) {
+    let found = supported(&rt, rt.alloc(), "gap G b 0 0 1 1000 -\n");
+    assert!(&rt; found.len() == 3);
+    match &found[1] {
+        CaseAnswer::Certified { u, states, .. } => {
+            let tip = outward(&rt, u.as_slice(), 8, NANOMETRES);
+            assert!(&rt; tip == (-575_286, -575_285), "the tip");
+            assert!(&rt;
+                states.as_slice() == [false, false].as_slice(),
+                "open on both sides"
+            );
+        }
+        CaseAnswer::Uncertified { .. } => assert!(&rt; false, "no bounds"),
+    }
+}
+
+// A number rounded to the nearest unit.
+fn nearest(rt: &impl Abort, number: i128, unit: (i128, u32)) -> i128
+    requires { unit.1 < 100 }
+{
+    let twice = number.checked_mul(2).expect(rt, "a number");
+    let below = floor(rt, twice, unit);
+    below.checked_add(1).expect(rt, "a sum") >> 1
+}
+
+// A support at the side of the tip touches without force in a loaded case, so that its state isn't certain: the displacements
+// that were reached stand beside the cause.
+#[test]
+fn touching(rt: HostRuntime) {
+    let found = supported(&rt, rt.alloc(), "oneway S b 0 1 0 0 -\n");
+    assert!(&rt; found.len() == 3);
+    judge_touching(&rt, &found[1]);
+}
+
+fn judge_touching(rt: &impl Abort, answer: &CaseAnswer) {
+    let reached = [0, 0, -100, 0, 100, 0, 0, 0, -575_286, 0, 862_728, 0];
+    match answer {
+        CaseAnswer::Uncertified { cause, guess } => {
+            assert!(rt;
+                matches!(
+                    *cause,
+                    Cause::State {
+                        restraint: RestraintId(1),
+                        minus: false
+                    }
+                ),
+                "the cause"
+            );
+            let guess = guess.as_slice();
+            assert!(rt; guess.len() == 12);
+            for row in 0..12 {
+                assert!(rt;
+                    nearest(rt, guess[row], NANOMETRES) == reached[row],
+                    "the guess"
+                );
+            }
+        }
+        CaseAnswer::Certified { .. } => assert!(rt; false, "bounds"),
     }
 }

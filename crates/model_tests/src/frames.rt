@@ -1,7 +1,7 @@
 //! Frames whose displacements and loads are known in closed form. The values were worked out outside the program, to 60 digits, by
 //! the formulas that stand beside each frame: E = 200,000 MPa, the tube of 100 mm by 10 mm has I = pi (0.1^4 - 0.08^4) / 64 m^4
 //! and A = pi (0.1^2 - 0.08^2) / 4 m^2, G J = E I / 1.3, and each anchor of 10^10 N/m and N m/rad gives way too.
-use crate::makers::{TUBE, check_all_forces, check_no_contacts};
+use crate::makers::TUBE;
 use accepted_text::accept;
 use case_run::answers;
 use model_types::{Bounds, CaseAnswer};
@@ -10,7 +10,7 @@ use std::process::Abort;
 
 // A number of a frame: its place among the bounds, and what is left of it where it is rounded down to 2^-56 m or rad, or to 2^-40 N
 // or N m.
-type Known = (usize, i128);
+pub(crate) type Known = (usize, i128);
 
 // No pair is wider: 60 nm and nrad, or 4 mN and mN m.
 const WIDEST: i128 = 1 << 32;
@@ -20,20 +20,43 @@ fn answers_of(rt: &impl Abort, alloc: Global, frame: &str) -> Vec<CaseAnswer> {
     let mut text = TUBE.to_string(alloc).expect(rt, "memory");
     text.push_str(frame).expect(rt, "memory");
     let accepted = accept(alloc, text.as_bytes()).expect(rt, "a model and its tree");
-    check_all_forces(rt, &accepted.model);
-    check_no_contacts(rt, alloc, &accepted.model);
     let order = accepted.tree.order();
     let parents = accepted.tree.node_parents();
     assert!(rt; parents.len() == order.len(), "a parent each");
     answers(alloc, &accepted.model, order, parents).expect(rt, "memory")
 }
 
-// The first case of a frame is certified, and its bounds enclose these numbers closely.
-fn check(rt: &impl Abort, alloc: Global, frame: &str, displacements: &[Known], loads: &[Known]) {
+// The first case of a frame without contacts is certified, and its bounds enclose these numbers closely.
+pub(crate) fn check(
+    rt: &impl Abort,
+    alloc: Global,
+    frame: &str,
+    displacements: &[Known],
+    loads: &[Known],
+) {
+    check_contacts(rt, alloc, frame, displacements, loads, &[]);
+}
+
+// The same of a frame with contacts, and these are closed.
+pub(crate) fn check_contacts(
+    rt: &impl Abort,
+    alloc: Global,
+    frame: &str,
+    displacements: &[Known],
+    loads: &[Known],
+    closed: &[bool],
+) {
     match answers_of(rt, alloc, frame).first() {
-        Some(CaseAnswer::Certified { u, loads: on, .. }) => {
+        Some(
+            CaseAnswer::Certified {
+                u,
+                loads: on,
+                states,
+            },
+        ) => {
             enclose(rt, u.as_slice(), displacements);
             enclose(rt, on.as_slice(), loads);
+            assert!(rt; states.as_slice() == closed, "the contacts");
         }
         _ => assert!(rt; false, "no bounds"),
     }
@@ -48,10 +71,13 @@ fn enclose(rt: &impl Abort, bounds: &[Bounds], known: &[Known]) {
     }
 }
 
-// A number that is rounded down to `least` lies within, and not much else.
+// A number that is rounded down to `least` lies within, and not much else; one that is known exactly is that number.
 fn encloses(rt: &impl Abort, bounds: &Bounds, least: i128) {
     assert!(rt; bounds.lo <= least, "the lower end");
-    assert!(rt; least < bounds.hi, "the upper end");
+    assert!(rt;
+        least < bounds.hi || bounds.lo == bounds.hi,
+        "the upper end"
+    );
     let width = bounds.hi.checked_sub(bounds.lo).expect(rt, "a width");
     assert!(rt; width < WIDEST, "a narrow pair");
 }

@@ -2,6 +2,8 @@
 #![tactic(auto)]
 
 #[cfg(test)]
+mod actions;
+#[cfg(test)]
 mod bend_loads;
 #[cfg(test)]
 mod bends;
@@ -11,6 +13,8 @@ mod cases;
 mod factors;
 #[cfg(test)]
 mod frames;
+#[cfg(test)]
+mod generated;
 #[cfg(test)]
 mod loads;
 #[cfg(test)]

@@ -1,5 +1,5 @@
 //! Two nodes and two cases: forces that add, a force whose load is no whole number of units, and loads at the limit.
-use crate::makers::{check_forces, model};
+use crate::makers::{check_case, model};
 use flex_interval::{Iv, point};
 use load_vectors::{LoadFault, loads};
 use model_types::CaseId;
@@ -21,7 +21,7 @@ force small b 0 0 0 0 -2000 0
 
 fn loads_of(rt: &impl Abort, alloc: Global, case: u32) -> Result<Vec<Iv>, LoadFault> {
     let m = model(rt, alloc, &[FORCES]);
-    check_forces(rt, &m, case as usize);
+    check_case(rt, &m, case as usize);
     loads(alloc, &m, CaseId(case))
 }
 

@@ -7,8 +7,9 @@ ghost use Rattle.model_types.specs.declared.answers.Bounds.{Bounds};
 
 use model_types::ranges::{COORDINATE, WALL};
 use model_types::{
-    AddFault, Bounds, Case, CaseId, Draft, Element, Force, Material, MaterialId, Model, Name, Node,
-    NodeId, Record, Restraint, RestraintKind, Section, SectionId, Shape, Space,
+    AddFault, Bounds, Case, CaseId, Draft, Element, Force, Material, MaterialId, Model, Move, Name,
+    Node, NodeId, Pressure, Record, Restraint, RestraintId, RestraintKind, Section, SectionId,
+    Shape, Space, Temp,
 };
 use std::alloc::Global;
 use std::process::Abort;
@@ -110,6 +111,38 @@ fn force(case: u32, node: u32) -> Record
     })
 }
 
+fn temp(case: u32, section: u32) -> Record
+    ensures { InForm result }
+{
+    Record::Temp(Temp {
+        case: CaseId(case),
+        section: SectionId(section),
+        dt: -1_000_000,
+    })
+}
+
+fn pressure(case: u32, section: u32) -> Record
+    ensures { InForm result }
+{
+    Record::Pressure(Pressure {
+        case: CaseId(case),
+        section: SectionId(section),
+        p: 100_000_000,
+    })
+}
+
+fn movement(case: u32, anchor: u32) -> Record
+    ensures { InForm result }
+{
+    Record::Move(Move {
+        case: CaseId(case),
+        anchor: RestraintId(anchor),
+        x: 1_000_000,
+        y: 0,
+        z: -1_000_000,
+    })
+}
+
 // A record that isn't a bend is added without a sine.
 fn needs_no_sine(candidate: &Record) -> bool
     ensures { IsTrue result → (sine : Bounds) → IsSineFor candidate.now sine }
@@ -121,7 +154,10 @@ fn needs_no_sine(candidate: &Record) -> bool
         | Record::Tee(_)
         | Record::Restraint(_)
         | Record::Case(_)
-        | Record::Force(_) => true,
+        | Record::Temp(_)
+        | Record::Pressure(_)
+        | Record::Force(_)
+        | Record::Move(_) => true,
         Record::Element(element) => is_straight(element.shape),
     }
 }
@@ -155,13 +191,16 @@ fn base(rt: &impl Abort, number: u32) -> Record
         4 => straight(rt, 0, 1),
         5 => anchor(rt, 0),
         6 => rest(rt),
-        _ => force(0, 1),
+        7 => force(0, 1),
+        8 => temp(0, 0),
+        9 => pressure(0, 0),
+        _ => movement(0, 0),
     }
 }
 
 // The draft takes the base model.
 fn fill(rt: &impl Abort, draft: &mut Draft) {
-    for number in 0..8 {
+    for number in 0..11 {
         accept(rt, draft, base(rt, number));
     }
 }
@@ -186,7 +225,7 @@ fn takes_a_model(rt: HostRuntime) {
     counts(&rt, &draft.finish().expect(&rt, "a model"));
 }
 
-// The base model has so many records of each kind, and no tees, temperatures, pressures, movements and checks.
+// The base model has so many records of each kind, and no tees and checks.
 fn counts(rt: &impl Abort, model: &Model) {
     let found = [
         model.materials().len(),
@@ -202,7 +241,7 @@ fn counts(rt: &impl Abort, model: &Model) {
         model.moves().len(),
         model.checks().len(),
     ];
-    assert_eq!(rt; found, [1, 1, 2, 1, 1, 1, 1, 0, 0, 0, 0, 0]);
+    assert_eq!(rt; found, [1, 1, 2, 1, 1, 1, 1, 0, 1, 1, 1, 0]);
 }
 
 // The number that refuses the record, or nothing where the draft takes it.
@@ -267,6 +306,44 @@ fn judge_all(rt: &impl Abort, draft: &mut Draft) {
 fn refuses_by_number(rt: HostRuntime) {
     let mut draft = Draft::new(rt.alloc()).expect(&rt, "memory");
     judge_all(&rt, &mut draft);
+}
+
+// Records of a case behind the base model, and a gap behind its anchor.
+fn changed(rt: &impl Abort, number: u32) -> Record
+    ensures { InForm result }
+{
+    match number {
+        0 => temp(0, 0),
+        1 => temp(1, 0),
+        2 => temp(0, 1),
+        3 => pressure(0, 0),
+        4 => pressure(u32::MAX, 0),
+        5 => movement(0, 0),
+        6 => movement(0, 1),
+        7 => stop(rt, "g", 0),
+        _ => force(0, 1),
+    }
+}
+
+#[test]
+fn refuses_what_a_case_has(rt: HostRuntime) {
+    let mut draft = Draft::new(rt.alloc()).expect(&rt, "memory");
+    fill(&rt, &mut draft);
+    for (number, refusal) in [
+        (0, Some(8)),
+        (1, Some(9)),
+        (2, Some(9)),
+        (3, Some(8)),
+        (4, Some(9)),
+        (5, Some(8)),
+        (6, Some(9)),
+        (7, None),
+        // The restraint is there now, and is no anchor.
+        (6, Some(9)),
+        (8, None),
+    ] {
+        judge(&rt, &mut draft, changed(&rt, number), refusal);
+    }
 }
 
 #[test]

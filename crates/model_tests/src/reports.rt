@@ -1,12 +1,10 @@
 //! Whole reports, as they are worked out by hand from the mechanics of a pipe of one metre.
 ghost use Rattle.std.specs.Prelude.{◌≡◌, length, IsTrue, All};
 ghost use Rattle.model_types.specs.Fits.{AreModest, FitsModel, IsCauseIn, IsGuess, IsGuessFor, IsModest};
-ghost use Rattle.model_types.specs.MemberCounts.{restraints_member_count};
+ghost use Rattle.model_types.specs.MemberCounts.{restraints_member_count, restraints_state_count};
 
 use crate::makers::model;
-use model_types::{
-    Bounds, CaseAnswer, Cause, ElementId, Model, NodeId, RestraintId, RestraintKind, Sequence,
-};
+use model_types::{Bounds, CaseAnswer, Cause, ElementId, Model, NodeId, RestraintId, Sequence};
 use report::bytes;
 use std::alloc::Global;
 use std::process::Abort;
@@ -62,16 +60,21 @@ fn is_beside(m: &Model, cause: &Cause, guess: &[i128]) -> bool
     }
 }
 
-// The loads of a model with an anchor and no other restraint.
-#[tactic(auto, using(crate::proofs::LoadLemmas::loads_of_one))]
-fn are_loads(m: &Model, loads: &[Bounds]) -> bool
-    ensures { IsTrue result → length loads.now ≡ restraints_member_count m.now.restraints }
+// How many loads and how many contact states the restraints of a model have.
+fn counts(rt: &impl Abort, m: &Model) -> (usize, usize)
+    ensures loads { result.0 ≡ restraints_member_count m.now.restraints }
+    ensures states { result.1 ≡ restraints_state_count m.now.restraints }
 {
-    let restraints = m.restraints();
-    if restraints.len() != 1 || loads.len() != 6 {
-        return false;
+    let (mut loads, mut states) = (0usize, 0usize);
+    for restraint in m.restraints() {
+        loads = loads
+            .checked_add(restraint.kind.member_count())
+            .expect(rt, "few loads");
+        states = states
+            .checked_add(restraint.kind.state_count())
+            .expect(rt, "few states");
     }
-    matches!(restraints[0].kind, RestraintKind::Anchor { .. })
+    (loads, states)
 }
 
 fn is_cause_in(m: &Model, cause: &Cause) -> bool
@@ -97,17 +100,19 @@ fn certified(
     m: &Model,
     u: &[Bounds],
     loads: &[Bounds],
+    states: &[bool],
 ) -> CaseAnswer
     ensures { FitsModel m.now result }
 {
     assert!(rt; u.len() % 6 == 0 && u.len() / 6 == m.nodes().len());
-    assert!(rt; are_loads(m, loads));
+    let (load_count, state_count) = counts(rt, m);
+    assert!(rt; loads.len() == load_count && states.len() == state_count);
     assert!(rt; are_modest(u));
     assert!(rt; are_modest(loads));
     CaseAnswer::Certified {
         u: Sequence::new(Vec::from_slice(alloc, u).expect(rt, "memory")),
         loads: Sequence::new(Vec::from_slice(alloc, loads).expect(rt, "memory")),
-        states: Sequence::new(Vec::new(alloc)),
+        states: Sequence::new(Vec::from_slice(alloc, states).expect(rt, "memory")),
     }
 }
 
@@ -145,7 +150,7 @@ fn expect_certified(
     report: &str,
 ) {
     let m = model(rt, alloc, &[TO_B, case]);
-    let answer = certified(rt, alloc, &m, u, loads);
+    let answer = certified(rt, alloc, &m, u, loads, &[]);
     expect_report(rt, alloc, &m, answer, report);
 }
 
@@ -228,6 +233,58 @@ fn a_case_under_a_load(rt: HostRuntime) {
     ];
     let case = "case tip 0 0 0 0 0 0\n";
     expect_certified(&rt, rt.alloc(), case, &u, &loads, UNDER_A_LOAD);
+}
+
+// A one-way support S, a gap G and a gap T of 0, all at b.
+const WITH_CONTACTS: &str =
+    "oneway S b 0 0 1 0 -\ngap G b 0 1 0 5 -\ngap T b 1 0 0 0 -\ncase rest 0 0 0 0 0 0\n";
+
+// The report of these contacts: by the states of S and of both sides of G, and the bounds of their loads and of T's.
+fn expect_contacts(
+    rt: &impl Abort,
+    alloc: Global,
+    loads: [Bounds; 4],
+    states: [bool; 3],
+    lines: &str,
+) {
+    let m = model(rt, alloc, &[TO_B, WITH_CONTACTS]);
+    let report = format!(in alloc;
+        "pipeflex report 1\nmodel 2 1 4 1 0\ncase rest certified\nnode a 0 0 0 0 0 0 0 0 0 0 0 0\nnode b 0 0 0 0 0 0 0 0 0 0 0 0\nrestraint A 0 0 0 0 0 0 0 0 0 0 0 0\n{lines}end\n"
+    ).expect(rt, "memory");
+    let [s, plus, minus, t] = loads;
+    let all = [
+        NOTHING, NOTHING, NOTHING, NOTHING, NOTHING, NOTHING, s, plus, minus, t,
+    ];
+    let answer = certified(rt, alloc, &m, &[NOTHING; 12], &all, &states);
+    expect_report(rt, alloc, &m, answer, report.as_str());
+}
+
+const ONE_TO_TWO: Bounds = Bounds {
+    lo: 1 << 40,
+    hi: 2 << 40,
+};
+
+// A state stands before each load of a one-way support and of a gap, the side of its direction first; a gap of 0 has none.
+#[test]
+fn contacts_that_are_closed(rt: HostRuntime) {
+    expect_contacts(
+        &rt,
+        rt.alloc(),
+        [ONE_TO_TWO, NOTHING, about(1 << 40), about(0)],
+        [true, false, true],
+        "restraint S closed 1000 2000\nrestraint G open 0 0 closed 999 1001\nrestraint T -1 1\n",
+    );
+}
+
+#[test]
+fn contacts_that_are_open(rt: HostRuntime) {
+    expect_contacts(
+        &rt,
+        rt.alloc(),
+        [NOTHING, ONE_TO_TWO, NOTHING, ONE_TO_TWO],
+        [false, true, false],
+        "restraint S open 0 0\nrestraint G closed 1000 2000 open 0 0\nrestraint T 1000 2000\n",
+    );
 }
 
 // The candidate of the same load, in 2^-56 m and rad.

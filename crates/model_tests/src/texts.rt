@@ -61,7 +61,8 @@ fn refuses_one_more_line(rt: HostRuntime) {
         ("node - 0 0 0", 7),
         ("nodes c 0 0 0", 4),
         ("bend c", 5),
-        ("temp c", 17),
+        ("check c", 17),
+        ("temp c", 5),
         ("section w st 100000 50000 0 0", 13),
         ("section w sx 100000 50000 0 0", 9),
         ("straight q a a s", 10),
@@ -85,7 +86,16 @@ fn refuses_one_more_line(rt: HostRuntime) {
         ("hanger H b 1 1000000001", 7),
         ("hanger H b 1 0 0", 5),
         ("case c 0 0 0 2 0 0", 7),
-        ("case c 0 0 0 1 0 0", 17),
+        ("case c 10001 0 0 0 0 0", 7),
+        ("case c 0 -10001 0 0 0 0", 7),
+        ("case c 0 0 x 0 0 0", 6),
+        ("case c 0 0 0 - 0 0", 6),
+        ("case c 0 0 0 0 1000001 0", 7),
+        ("case c 0 0 0 0 0 -1", 7),
+        ("case c 0 0 0 0 0 100000001", 7),
+        ("temp c s 0", 9),
+        ("pressure c s 0", 9),
+        ("move c A 0 0 0", 9),
         ("force c a 0 0 0 0 0 0", 9),
     ] {
         judge_line(&rt, rt.alloc(), line, Some((number, 8)));
@@ -102,10 +112,65 @@ fn reads_what_it_may(rt: HostRuntime) {
         "oneway R b 0 0 -1 1000000 -\ngap G b 0 1 0 0 2000000000000",
         "hanger H b 2000000000000 1000000000\nhanger I b 1 0",
         "case c 0 0 0 0 0 0\nforce c b 0 0 -1000000 0 0 0\nforce c b 0 0 1 0 0 0",
+        "case c 10000 -10000 0 1 1000000 100000000",
+        "case c 0 0 -1000 1 -1000000 0\ncase d 0 0 0 0 0 0\ntemp c s 0\ntemp d s 0\npressure d s 0",
     ] {
         judge_line(&rt, rt.alloc(), line, None);
     }
 }
+
+// Changes of temperature, pressures and movements of the cases of a model with another section and two more restraints.
+#[test]
+fn judges_what_cases_change(rt: HostRuntime) {
+    for (line, expected) in [
+        ("temp c s 1000000", None),
+        ("temp c s -1000000", None),
+        ("temp c s 1000001", Some((7, 13))),
+        ("temp c s -1000001", Some((7, 13))),
+        ("temp c s -", Some((6, 13))),
+        ("temp c s", Some((5, 13))),
+        ("temp c s 1 1", Some((5, 13))),
+        ("temp c+ s x", Some((7, 13))),
+        ("temp c s+ x", Some((7, 13))),
+        ("temp d s 1", Some((9, 13))),
+        ("temp c t 1", Some((9, 13))),
+        ("temp c s 1\ntemp c w 1", None),
+        ("temp c s 1\ntemp c s 2", Some((8, 14))),
+        ("temp c s 1\ntemp d s x", Some((6, 14))),
+        ("pressure c s 0", None),
+        ("pressure c s 100000000", None),
+        ("pressure c s 100000001", Some((7, 13))),
+        ("pressure c s -1", Some((7, 13))),
+        ("pressure c w 1\npressure c s 1", None),
+        ("pressure c w 1\npressure c w 1", Some((8, 14))),
+        ("pressure c t 1", Some((9, 13))),
+        ("temp c s 1\npressure c s 1", None),
+        ("move c A 1000000 -1000000 0", None),
+        ("move c A 1000001 0 0", Some((7, 13))),
+        ("move c A 0 -1000001 0", Some((7, 13))),
+        ("move c A 0 0 -", Some((6, 13))),
+        ("move c A 0 0", Some((5, 13))),
+        ("move d A 0 0 0", Some((9, 13))),
+        ("move c C 0 0 0", Some((9, 13))),
+        // The restraint is no anchor: a linear one, or a hanger.
+        ("move c L 0 0 0", Some((9, 13))),
+        ("move c H 0 0 0", Some((9, 13))),
+        ("move c A 0 0 0\nmove c B 0 0 0", None),
+        ("move c A 0 0 0\nmove c A 1 0 0", Some((8, 14))),
+        ("anchor C a - -\nmove c C 0 0 1", None),
+    ] {
+        let text = format!(in rt.alloc(); "{BASE}{CHANGED}{line}").expect(&rt, "memory");
+        judge(&rt, rt.alloc(), text.as_str(), expected);
+    }
+}
+
+const CHANGED: &str = "\
+section w st 60300 3910 0 0
+linear L b 0 0 1 -
+hanger H b 1 0
+anchor B b - -
+case c 0 0 0 0 0 0
+";
 
 // A header with a branch at b, and a pipe that runs on from c.
 const BRANCHED: &str = "pipeflex 1
@@ -240,7 +305,9 @@ straight p a b s
 
     let mixed = " pipeflex\t1 # header
 node a 0 0 0
-case c 0 0 0 0 0 0
+case c -1 0 1 1 -2 3
+anchor B a 5 6
+move c B 7 -8 9
 force c a -1 2 -3 4 -5 6
 
 gap G a 0 0 -2 0 -
@@ -248,18 +315,28 @@ twist T a 0 -1 0 7 # a rotation
 hanger H a 20000 500000
 oneway R a 1 0 0 5 6
 linear L a 3 0 4 -
+material m 1 2 3 4
+section s m 1000 100 0 0
+pressure c s 11
+temp c s -10
 anchor A a - 10
 ";
     let sorted = "pipeflex 1
+material m 1 2 3 4
+section s m 1000 100 0 0
 node a 0 0 0
+anchor B a 5 6
 gap G a 0 0 -2 0 -
 twist T a 0 -1 0 7
 hanger H a 20000 500000
 oneway R a 1 0 0 5 6
 linear L a 3 0 4 -
 anchor A a - 10
-case c 0 0 0 0 0 0
+case c -1 0 1 1 -2 3
+temp c s -10
+pressure c s 11
 force c a -1 2 -3 4 -5 6
+move c B 7 -8 9
 ";
     expect_echo(&rt, rt.alloc(), mixed, sorted);
 }

@@ -527,7 +527,97 @@ anchor A a - -
 gap G b 0 1 0 1 -
 ";
 
-const CONTACT: &str = "refused 17 line 1 unbuilt\n";
+// 1,000 N up at its end lift it off.
+const LIFTED: &str = "\
+anchor A a - -
+oneway R b 0 0 -1 0 -
+case tip 0 0 0 0 0 0
+force tip b 0 0 1000000 0 0 0
+";
+
+const LIFTED_REPORT: &str = "\
+pipeflex report 1
+model 2 1 2 1 0
+case tip certified
+node a -1 1 -1 1 99 101 -1 1 -101 -99 -1 1
+node b -1 1 -1 1 575285 575286 -1 1 -862729 -862728 -1 1
+restraint A -1 1 -1 1 999999 1000001 -1 1 -1000001 -999999 -1 1
+restraint R open 0 0
+end
+";
+
+// Nothing acts, so that the support touches without force.
+const RESTING: &str = "\
+anchor A a - -
+oneway R b 0 0 -1 0 -
+case rest 0 0 0 0 0 0
+";
+
+const RESTING_REPORT: &str = "\
+pipeflex report 1
+model 2 1 2 1 0
+case rest certified
+node a 0 0 0 0 0 0 0 0 0 0 0 0
+node b 0 0 0 0 0 0 0 0 0 0 0 0
+restraint A 0 0 0 0 0 0 0 0 0 0 0 0
+restraint R open 0 0
+end
+";
+
+// A guide on one side touches without force while 1,000 N act across it.
+const SIDE_GUIDE: &str = "\
+anchor A a - -
+oneway S b 0 1 0 0 -
+case tip 0 0 0 0 0 0
+force tip b 0 0 -1000000 0 0 0
+";
+
+const SIDE_GUIDE_REPORT: &str = "\
+pipeflex report 1
+model 2 1 2 1 0
+case tip uncertified state S plus
+guess a 0 0 -100 0 100 0
+guess b 0 0 -575286 0 862728 0
+end
+";
+
+// A pipe between two anchors, 100 K hotter. It expands by 1.2 mm, and E A, 1 m and twice 10^10 N/m leave 609,635.8 N.
+const HOT: &str = "\
+anchor A a - -
+anchor B b - -
+case rest 0 0 0 0 0 0
+case hot 0 0 0 0 100000 0
+";
+
+const HOT_REPORT: &str = "\
+pipeflex report 1
+model 2 1 2 2 0
+case rest certified
+node a 0 0 0 0 0 0 0 0 0 0 0 0
+node b 0 0 0 0 0 0 0 0 0 0 0 0
+restraint A 0 0 0 0 0 0 0 0 0 0 0 0
+restraint B 0 0 0 0 0 0 0 0 0 0 0 0
+case hot certified
+node a -60964 -60963 -1 1 -1 1 -1 1 -1 1 -1 1
+node b 60963 60964 -1 1 -1 1 -1 1 -1 1 -1 1
+restraint A -609635826 -609635825 -1 1 -1 1 -1 1 -1 1 -1 1
+restraint B 609635825 609635826 -1 1 -1 1 -1 1 -1 1 -1 1
+end
+";
+
+// An anchor of 10^10 N/m that settles by 6,711 um: the spring alone would bear over 2^26 N.
+const SETTLED: &str = "\
+anchor A a - -
+case down 0 0 0 0 0 0
+move down A 0 0 -6711
+";
+
+const SETTLED_REPORT: &str = "\
+pipeflex report 1
+model 2 1 1 1 0
+case down uncertified width solve 1
+end
+";
 
 const SECTION: &str = "\
 pipeflex 1
@@ -1007,26 +1097,50 @@ fn analyses_whole_models(rt: HostRuntime) -> Result<(), Fail> {
 }
 
 #[test]
-fn analyses_no_contacts(rt: HostRuntime) -> Result<(), Fail> {
-    let rows: [Row; 5] = [
+fn analyses_contacts(rt: HostRuntime) -> Result<(), Fail> {
+    let rows: [Row; 6] = [
         (
             &["analyse"],
-            (SUPPORTED, ""),
-            (Status::Refused, "", CONTACT),
+            (STRAIGHT, LIFTED),
+            (Status::Done, LIFTED_REPORT, ""),
         ),
         (
             &["analyse", "--workers", "7"],
-            (SUPPORTED, ""),
-            (Status::Refused, "", CONTACT),
+            (STRAIGHT, LIFTED),
+            (Status::Done, LIFTED_REPORT, ""),
         ),
         (
             &["analyse"],
-            (STRAIGHT, GUIDED),
-            (Status::Refused, "", CONTACT),
+            (STRAIGHT, RESTING),
+            (Status::Done, RESTING_REPORT, ""),
         ),
-        // The other commands take them.
+        (
+            &["analyse"],
+            (STRAIGHT, SIDE_GUIDE),
+            (Status::Uncertified, SIDE_GUIDE_REPORT, ""),
+        ),
         (&["echo"], (SUPPORTED, ""), (Status::Done, SUPPORTED, "")),
         (&["members"], (STRAIGHT, GUIDED), (Status::Done, TABLE, "")),
+    ];
+    for (words, text, want) in rows {
+        answers(&rt, rt.alloc(), words, text, want)?;
+    }
+    Ok(())
+}
+
+#[test]
+fn analyses_what_acts(rt: HostRuntime) -> Result<(), Fail> {
+    let rows: [Row; 2] = [
+        (
+            &["analyse"],
+            (STRAIGHT, HOT),
+            (Status::Done, HOT_REPORT, ""),
+        ),
+        (
+            &["analyse"],
+            (STRAIGHT, SETTLED),
+            (Status::Uncertified, SETTLED_REPORT, ""),
+        ),
     ];
     for (words, text, want) in rows {
         answers(&rt, rt.alloc(), words, text, want)?;
@@ -1234,7 +1348,7 @@ fn refuses_texts(rt: HostRuntime) -> Result<(), Fail> {
             "pipeflex 1\nmaterial st 200000 300 12000 7850\nsection s st 100000 50000 0 0\n",
             "refused 13 line 3 walltoothick\n",
         ),
-        ("pipeflex 1\ntemp c\n", "refused 17 line 2 unbuilt\n"),
+        ("pipeflex 1\ncheck c\n", "refused 17 line 2 unbuilt\n"),
     ] {
         let want = (Status::Refused, "", line);
         answers(&rt, rt.alloc(), &["members"], (text, ""), want)?;

@@ -26,13 +26,6 @@ at_touching members numbers as_many count at_node zero k inside = (
 )
 at_touching members numbers as_many count at_node (suc node) k inside = absurd (omega arith)
 
--- the numbers below a bound
-counted_contains : (numbers : List ℕ) (n : ℕ) → length numbers ≡ n → ((k : ℕ) → k < n → slice_index numbers k ≡ k) → (k : ℕ) → Contains numbers k ↔ (k < n)
-counted_contains numbers n as_many count k = (
-  λ found. omega (arith, found.1, found.2, as_many, get_or_default_zero numbers found.0 k found.1, count found.0 (omega (arith, found.1, as_many))),
-  λ below. (k, omega (arith, as_many), get_or_default_zero numbers k k (omega (arith, as_many)) ∙ count k below),
-)
-
 counted_rising : (numbers : List ℕ) (n : ℕ) → length numbers ≡ n → ((k : ℕ) → k < n → slice_index numbers k ≡ k) → AllPairs (λ x y. x < y) numbers
 counted_rising numbers n as_many count = at_rising numbers n as_many count 0
 
@@ -70,12 +63,4 @@ returns-clause-stiff c =
     let P : Built → Type 0 = λ b. AreStiff b in
     IfOk-weaker c.one_node.result _ AreStiff
     (λ b is. subst P (sym is) (λ k inside. (c.requires.anchors k no_member inside).2))
-    c.one_node.ensures
-
-pub returns-clause-states : goal.returns-clause-states
-returns-clause-states c =
-    let P : Built → Type 0 = λ b. (k : ℕ) → Contains b.unilateral k ↔ (k < c.args.states) in
-    IfOk-weaker c.one_node.result _ P
-    (λ b is. subst P (sym is) (λ k. counted_contains c.in_ok-counted.field-0.items c.args.states (omega (arith, c.in_ok-counted.ensures.0))
-    (λ k below. omega (arith, c.in_ok-counted.ensures.1 k (omega (arith, below)))) k))
     c.one_node.ensures
