@@ -4,7 +4,7 @@ EXAMPLE = examples/cantilever
 PREFIX ?= /usr/local
 JOBS ?= 4
 
-.PHONY: all run test install clean
+.PHONY: all run examples test install clean
 
 all: $(PROGRAM)
 
@@ -16,6 +16,11 @@ $(PROGRAM): crates.txt $(shell find crates -path '*/out' -prune -o -type f \( -n
 # The report of the example, compared with the stored one.
 run: $(PROGRAM)
 	$(PROGRAM) analyse < $(EXAMPLE).flex | tee /dev/stderr | cmp - $(EXAMPLE).report
+
+# What the built program writes for each example, compared with what is stored beside it.
+examples: $(PROGRAM)
+	for r in examples/*.report; do $(PROGRAM) analyse < $${r%.report}.flex | cmp - $$r || exit 1; done
+	for t in examples/*.members; do $(PROGRAM) members < $${t%.members}.flex | cmp - $$t || exit 1; done
 
 # The gate: everything proved from nothing, every must-fail edit, test and program. Two examples are files of stored runs.
 test:
