@@ -58,7 +58,7 @@ shape_front : (size : ℕ) (panels : List Panel) (d : ℕ) → ArePanelShapes si
 shape_front size panels d s lt = record { rising = s.rising d lt; from_own = s.from_own d lt; own = s.own d lt }
 
 -- the positions of a column rise
-rows_rise : (nodes : List ℕ) (c : ℕ) (rows : List ℕ) → IsRising nodes → AreColumnRows nodes c rows → IsRising rows
+pub rows_rise : (nodes : List ℕ) (c : ℕ) (rows : List ℕ) → IsRising nodes → AreColumnRows nodes c rows → IsRising rows
 rows_rise nodes c rows up r i k d lt in' =
     let first = get_or_default rows i d 0 (omega arith) ∙ r.row i (omega arith) in
     let second = get_or_default rows k d 0 in' ∙ r.row k in' in
@@ -74,7 +74,7 @@ rows_rise nodes c rows up r i k d lt in' =
     ]
 
 -- where a position is listed
-rows_from : (size d c : ℕ) (nodes rows : List ℕ) (v : ℕ) → c < 6 → IsOwnFront size d nodes → AreColumnRows nodes c rows → v < length rows → (6 * d + c ≤ get_or rows v 0) × (get_or rows v 0 < 6 * size)
+pub rows_from : (size d c : ℕ) (nodes rows : List ℕ) (v : ℕ) → c < 6 → IsOwnFront size d nodes → AreColumnRows nodes c rows → v < length rows → (6 * d + c ≤ get_or rows v 0) × (get_or rows v 0 < 6 * size)
 rows_from size d c nodes rows v cl f r lt =
     let row = r.row v lt in
     let p = (c + v) / 6 in
@@ -87,10 +87,10 @@ rows_from size d c nodes rows v cl f r lt =
       (let high = bounds.1 in omega arith),
     )
 
-empty_none : (xs : List ℕ) (x : ℕ) → xs ≡ [] → Contains xs x → ⊥
+pub empty_none : (xs : List ℕ) (x : ℕ) → xs ≡ [] → Contains xs x → ⊥
 empty_none xs x none (v, vl, at) = (let len = ap length none in omega arith)
 
-empty_rises : (xs : List ℕ) → xs ≡ [] → IsRising xs
+pub empty_rises : (xs : List ℕ) → xs ≡ [] → IsRising xs
 empty_rises xs none i k d lt in' = (let len = ap length none in absurd (omega arith))
 
 -- the columns are those of a factor
@@ -145,7 +145,7 @@ test_below : (i j : ℕ) (x : ℤ) → j ≤ i → x ≡ cond (ltb i j) (pos 0) 
 test_below i j x le = sym (ap (λ b. cond b (pos 0) x) (le-ltb i j le))
 
 -- the entry of a column, where it is listed and where not
-column_is : (size d c : ℕ) (nodes rows : List ℕ) (entries values : List ℤ) (i : ℕ) → c < 6 → d < size → IsOwnFront size d nodes → length entries ≡ 36 * length nodes → AreColumnRows nodes c rows → AreColumnValues entries c values → 6 * d + c ≤ i → column_entry rows values i ≡ kept_for 36 nodes entries (i / 6) (6 * (i % 6) + c)
+pub column_is : (size d c : ℕ) (nodes rows : List ℕ) (entries values : List ℤ) (i : ℕ) → c < 6 → d < size → IsOwnFront size d nodes → length entries ≡ 36 * length nodes → AreColumnRows nodes c rows → AreColumnValues entries c values → 6 * d + c ≤ i → column_entry rows values i ≡ kept_for 36 nodes entries (i / 6) (6 * (i % 6) + c)
 column_is size d c nodes rows entries values i cl dl f whole r w le =
     let q = i / 6 in
     let p = place_of q nodes in

@@ -16,7 +16,7 @@ root_positive p least =
     let one = root.greatest (pos 1) (omega (arith, ints)) in
     omega (arith, ints)
 
-diagonal_positive : RecurrenceLaws → (a : ℕ → ℕ → ℤ) (order : List ℕ) (parents : List (Option ℕ)) (f : ColumnLists) → IsFactorOf a order parents f → HasDiagonal f
+pub diagonal_positive : RecurrenceLaws → (a : ℕ → ℕ → ℤ) (order : List ℕ) (parents : List (Option ℕ)) (f : ColumnLists) → IsFactorOf a order parents f → HasDiagonal f
 diagonal_positive laws a order parents f factor j below =
     let inside : j < 6 * length order = omega (arith, ap length factor.order_is) in
     let least = (factor.passes (j / 6) (omega arith)).pivots j (omega arith, omega arith) in

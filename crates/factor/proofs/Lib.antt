@@ -12,3 +12,8 @@ pub mod NodeLemmas
 pub mod ColumnLemmas
 pub mod StepLemmas
 pub mod DiagonalLemmas
+pub mod LowerLemmas
+pub mod FrontValueLemmas
+pub mod FrontStepLemmas
+pub mod PushLemmas
+pub mod FrontColumnLemmas

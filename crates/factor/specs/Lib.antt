@@ -6,3 +6,4 @@ pub mod Scalar
 pub mod Front
 pub mod Gather
 pub mod Eliminate
+pub mod Fronts

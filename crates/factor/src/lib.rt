@@ -1,6 +1,7 @@
 //! Factorisations of a stiffness matrix by the integer Cholesky recurrence.
 #![tactic(auto)]
 
+mod by_fronts;
 mod dot;
 mod eliminate;
 mod fault;
@@ -11,5 +12,6 @@ mod recurrence;
 mod scatter;
 mod squares;
 
+pub use by_fronts::fronts;
 pub use fault::ScalarFault;
 pub use recurrence::scalar;

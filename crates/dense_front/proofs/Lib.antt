@@ -1,0 +1,11 @@
+pub mod CastLemmas
+pub mod EntryLemmas
+pub mod OwnLemmas
+pub mod SquareLemmas
+pub mod ChildLemmas
+pub mod ValueLemmas
+pub mod SpaceLemmas
+pub mod TreeLemmas
+pub mod RoomLemmas
+pub mod ColumnLemmas
+pub mod NearestLemmas
