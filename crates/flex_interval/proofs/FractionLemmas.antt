@@ -1,9 +1,9 @@
 -- What lies between two ends, times a factor; and how each exact operation stays between rounded ends.
-use Rattle.std.proofs.Common.{ℕ, ◌≡◌, ◌-◌, ◌^◌, ap, arith, ℤ, pos, ◌+ℤ◌, ◌-ℤ◌, ◌*ℤ◌, neg_ℤ, ◌≤ℤ◌, ◌<ℤ◌, ◌<◌, unsigned_abs}
+use Rattle.std.proofs.Common.{ℕ, ◌≡◌, ◌-◌, ◌^◌, arith, ℤ, pos, ◌+ℤ◌, ◌-ℤ◌, ◌*ℤ◌, neg_ℤ, ◌≤ℤ◌, ◌<ℤ◌, ◌<◌, unsigned_abs}
 use Rattle.std.proofs.lemmas.Nat.{pow_pos}
 use Rattle.std.proofs.lemmas.Int.{ints, by_lt_z}
 use Rattle.int_laws.proofs.Sums.{int_sums}
-use Rattle.int_laws.proofs.Products.{mul_comm, mul_assoc, mul_right_comm, neg-mul, le_mul, le_mul_negative, le_of_mul, lt_of_mul, mul_positive, one-mul}
+use Rattle.int_laws.proofs.Products.{mul_comm, mul_right_comm, neg-mul, le_mul, le_mul_negative, le_of_mul, lt_of_mul, mul_positive, one-mul}
 use Rattle.int_laws.specs.Division.{IsFloor, IsCeiling, floor_of}
 use Rattle.int_laws.proofs.DivisionLemmas.{floor_of-is, below_divided, above_divided}
 use Rattle.flex_interval.specs.Ends.{Ends, IsInterval}

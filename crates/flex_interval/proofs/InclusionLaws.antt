@@ -1,11 +1,11 @@
 -- What an operation's answer encloses, by the operation's definition.
-use Rattle.std.proofs.Common.{◌≡◌, ◌∙◌, ◌-ℤ◌, ap, arith, refl, subst, sym, true, false, Bool, ℕ, ◌^◌, ℤ, pos, ◌+ℤ◌, ◌*ℤ◌, neg_ℤ, Result, Ok, Err, if◌then◌else◌}
+use Rattle.std.proofs.Common.{◌≡◌, ◌∙◌, ◌-ℤ◌, ap, arith, refl, subst, sym, true, false, Bool, ◌^◌, ℤ, pos, ◌+ℤ◌, ◌*ℤ◌, neg_ℤ, Result, Ok, Err, if◌then◌else◌}
 use Rattle.std.specs.Int.{int_min, int_max}
 use Rattle.int_laws.proofs.Sums.{int_sums}
 use Rattle.int_laws.specs.Division.{floor_of, ceil_of}
 use Rattle.int_laws.proofs.DivisionLemmas.{floor_of-is, ceil_of-is}
 use Rattle.flex_interval.specs.Ends.{Ends}
-use Rattle.flex_interval.specs.Fraction.{Fraction, Within, scaled, times, plus, minus, negated}
+use Rattle.flex_interval.specs.Fraction.{Fraction, Within, scaled, times, minus, negated}
 use Rattle.flex_interval.specs.declared.fault.IvFault.{IvFault}
 use Rattle.flex_interval.specs.declared.fault.IvFault.TheVariants as fault
 use Rattle.flex_interval.specs.Operations.{ends, is_small, small_of, neg_of, add_of, sub_of, multiple_of, products_of, mul_of}
@@ -65,7 +65,8 @@ multiple_holds a e n x is within =
     (multiple_within a (ends (int_min (a.lo *ℤ n) (a.hi *ℤ n)) (int_max (a.lo *ℤ n) (a.hi *ℤ n))) n x
     (min_first _ _) (min_second _ _) (max_first _ _) (max_second _ _) within)
 
-products_hold : (a b e : Ends) (x y : Fraction) → products_of a b ≡ Ok e → Within a x → Within b y → Within e (times x y 0)
+-- the four products of ends hold each product
+pub products_hold : (a b e : Ends) (x y : Fraction) → products_of a b ≡ Ok e → Within a x → Within b y → Within e (times x y 0)
 products_hold a b e x y is in_a in_b =
     let first = first_of (multiple_of a b.lo) _ e (sym (products-by_ends a b) ∙ is) in
     let second = first_of (multiple_of a b.hi) _ e first.2 in

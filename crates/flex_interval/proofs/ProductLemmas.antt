@@ -1,13 +1,13 @@
 -- Products of intervals.
-use Rattle.std.proofs.Common.{◌≡◌, refl, arith, ℤ, pos, ◌*ℤ◌, ◌≤ℤ◌, ◌<ℤ◌, Result, Ok, Err}
-use Rattle.std.proofs.lemmas.Int.{ints}
+use Rattle.std.proofs.Common.{◌≡◌, refl, arith, ◌^◌, ◌*◌, ◌<◌, ◌≤◌, mul-le-mul, ℤ, pos, ◌*ℤ◌, ◌≤ℤ◌, ◌<ℤ◌, unsigned_abs, Result, Ok, Err}
+use Rattle.std.proofs.lemmas.Int.{ints, unsigned_abs-mul}
 use Rattle.std.specs.Int.{int_min, int_max}
 use Rattle.int_laws.proofs.Sums.{int_sums}
-use Rattle.int_laws.proofs.Products.{mul_comm, mul_assoc, le_mul, mul_positive}
+use Rattle.int_laws.proofs.Products.{mul_comm, mul_assoc, le_mul, mul_positive, zero-mul}
 use Rattle.flex_interval.specs.Ends.{Ends}
 use Rattle.flex_interval.specs.Fraction.{Fraction, Within, scaled, times}
 use Rattle.flex_interval.specs.declared.fault.IvFault.{IvFault}
-use Rattle.flex_interval.specs.Operations.{ends, least, greatest, multiple_of, products_of, product_of}
+use Rattle.flex_interval.specs.Operations.{ends, least, greatest, point_of, multiple_of, products_of, product_of}
 use Rattle.lists.specs.Results.{and_then}
 use Rattle.flex_interval.proofs.EndsLemmas.{min_first, min_second, max_first, max_second}
 use Rattle.flex_interval.proofs.FractionLemmas.{below_between, above_between}
@@ -53,3 +53,26 @@ pub products-by_ends : (a b : Ends) →
     products_of a b ≡ and_then (multiple_of a b.lo) (λ p. and_then (multiple_of a b.hi) (λ q. Ok (ends (int_min p.lo q.lo) (int_max p.hi q.hi))))
 unfolding products_of multiple_of
 products-by_ends a b = four (product_of a.lo b.lo) (product_of a.hi b.lo) (product_of a.lo b.hi) (product_of a.hi b.hi)
+
+-- 0 times anything is 0
+pub zero-products : (b : Ends) → products_of (point_of (pos 0)) b ≡ Ok (point_of (pos 0))
+unfolding products_of
+zero-products b = rw (zero-mul b.lo, zero-mul b.hi) refl
+
+pub products-zero : (a : Ends) → products_of a (point_of (pos 0)) ≡ Ok (point_of (pos 0))
+unfolding products_of
+products-zero a = rw (mul_comm a.lo (pos 0), mul_comm a.hi (pos 0), zero-mul a.lo, zero-mul a.hi) refl
+
+-- the product of two narrow numbers is small
+pub narrow_small : (x y : ℤ) → unsigned_abs x < 2 ^ 62 → unsigned_abs y < 2 ^ 62 → unsigned_abs (x *ℤ y) < 2 ^ 126
+narrow_small x y first second =
+    let x_below : unsigned_abs x ≤ 2 ^ 62 = omega (arith, first) in
+    let y_below : unsigned_abs y ≤ 2 ^ 62 = omega (arith, second) in
+    let bound : unsigned_abs x * unsigned_abs y ≤ 2 ^ 62 * 2 ^ 62 = mul-le-mul x_below y_below in
+    rw (unsigned_abs-mul x y) (omega (arith, bound))
+
+-- four products that are there
+pub products_are : (a b : Ends) (p q r s : ℤ) → product_of a.lo b.lo ≡ Ok p → product_of a.hi b.lo ≡ Ok q → product_of a.lo b.hi ≡ Ok r →
+    product_of a.hi b.hi ≡ Ok s → products_of a b ≡ Ok (ends (least p q r s) (greatest p q r s))
+unfolding products_of
+products_are a b p q r s first second third fourth = rw (first, second, third, fourth) refl

@@ -1,5 +1,5 @@
 -- What each operation's answer encloses, as laws of the definitions: of no call.
-use Rattle.std.specs.Prelude.{◌≡◌, ℕ, ℤ, pos, ◌<ℤ◌, Ok}
+use Rattle.std.specs.Prelude.{◌≡◌, ℕ, Ok}
 use Rattle.flex_interval.specs.Ends.{Ends}
 use Rattle.flex_interval.specs.Fraction.{Fraction, Within, plus, minus, times}
 use Rattle.flex_interval.specs.Operations.{add_of, sub_of, mul_of}

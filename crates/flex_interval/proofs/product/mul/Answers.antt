@@ -1,4 +1,4 @@
-use Rattle.std.proofs.Common.{◌^◌, pos, ◌*ℤ◌, ◌<ℤ◌, FitsSigned, to_z, of_z, to_z-of_z}
+use Rattle.std.proofs.Common.{sym, ◌^◌, pos, ◌*ℤ◌, ◌<ℤ◌, FitsSigned, to_z, of_z, to_z-of_z}
 use Rattle.std.specs.Int.{w128}
 use Rattle.int_laws.specs.Division.{IsFloor, IsCeiling}
 use Rattle.int_laws.proofs.DivisionLemmas.{floor_of-is, ceil_of-is}
@@ -6,6 +6,7 @@ use Rattle.flex_interval.specs.Fraction.{times}
 use Rattle.flex_interval.specs.Operations.{ends}
 use Rattle.flex_interval.proofs.EndsLemmas.{small_fits}
 use Rattle.flex_interval.proofs.FractionLemmas.{rounded_within, ratio_is_interval, power_positive}
+use Rattle.flex_interval.proofs.InclusionLaws.{products_hold}
 use Rattle.flex_interval.proofs.product.mul.Goals as goal
 
 positive : (c : goal.After-shift_up) → pos 0 <ℤ pos (2 ^ c.args.s)
@@ -30,4 +31,4 @@ pub returns-clause-within : goal.returns-clause-within
 unfolding times
 returns-clause-within c = λ x y in_a in_b.
     rounded_within (ends c.product.inside.lo c.product.inside.hi) _ (x.num *ℤ y.num) (x.den *ℤ y.den) (pos (2 ^ c.args.s)) (positive c)
-    (lower c).at_most (upper c).at_least (rw (← c.product.view_is) at (c.in_ok-product.ensures.within x y in_a in_b))
+    (lower c).at_most (upper c).at_least (rw (← c.product.view_is) at (products_hold c.args.a c.args.b c.in_ok-product.product x y (sym c.in_ok-product.ensures.value) in_a in_b))
