@@ -6,14 +6,14 @@ use Rattle.std.specs.List.{list_all}
 use Rattle.std.specs.Str.{bytes_eq}
 use Rattle.model_types.specs.declared.records.Record.{Record}
 use Rattle.model_types.specs.declared.records.Record.TheVariants as record_of
-use Rattle.model_types.specs.Kinds.{Kind, material_kind, section_kind, node_kind, element_kind, tee_kind, restraint_kind, case_kind, temp_kind, pressure_kind, force_kind, move_kind, place, kind_of, count}
+use Rattle.model_types.specs.Kinds.{Kind, material_kind, section_kind, node_kind, element_kind, tee_kind, restraint_kind, case_kind, temp_kind, pressure_kind, force_kind, move_kind, check_kind, place, kind_of, count}
 use Rattle.model_types.specs.Lists.{Lists, no_records, added}
 use Rattle.model_types.specs.Refusals.{refusal}
 use Rattle.model_text.specs.Fields.{◌>>=◌, refuse_if}
 use Rattle.text_words.specs.Fields.{lines}
 use Rattle.model_text.specs.Grammar.{after_lines, IsLineOf}
 use Rattle.model_text.specs.Lines.{State, start, after_line, after_words, is_header, is_of_kind, judged, makes, taken, record_taken}
-use Rattle.model_text.specs.Records.{is_unbuilt, record_of_words, record_under}
+use Rattle.model_text.specs.Records.{record_of_words}
 use Rattle.model_text.specs.Rows.{Field, form_of, kind_made, row, row_width, width, Values, made, read_field, read_row, record_in}
 use Rattle.model_text.specs.declared.records.Form.{Form}
 use Rattle.model_text.specs.declared.records.Form.TheVariants as form
@@ -23,9 +23,9 @@ use Rattle.model_text.proofs.LineLemmas.{ok_same, err_no_ok, empty_list, after_l
 abbrev pub one_if : Bool → ℕ
 one_if b = if b then 1 else 0
 
--- how many records of a kind the record of that first word adds
-abbrev pub made_under : Kind → List ℕ → ℕ
-made_under k w = one_if (makes k w)
+-- how many records of a kind a line of these words adds
+abbrev pub made_under : Kind → List (List ℕ) → ℕ
+made_under k ws = one_if (makes k ws)
 
 -- what is accepted by a test, or by the step behind another
 module _ {A : Type 0} {R : Type 0} (t : A) where
@@ -67,6 +67,9 @@ kind_of_made form.Temp vs = refl
 kind_of_made form.Pressure vs = refl
 kind_of_made form.Force vs = refl
 kind_of_made form.Move vs = refl
+kind_of_made form.Sustained vs = refl
+kind_of_made form.Occasional vs = refl
+kind_of_made form.Expansion vs = refl
 
 -- a record is one more of its kind, and of no other
 count_added : (m : Lists) (r : Record) (k : Kind) → count (added m r) k ≡ count m k + one_if (place (kind_of r) == place k)
@@ -92,12 +95,15 @@ count_added m (record_of.Force r) force_kind = length-append m.forces (r ∷ [])
 count_added m (record_of.Force r) k = omega arith
 count_added m (record_of.Move r) move_kind = length-append m.moves (r ∷ [])
 count_added m (record_of.Move r) k = omega arith
+count_added m (record_of.Check r) check_kind = length-append m.checks (r ∷ [])
+count_added m (record_of.Check r) k = omega arith
 
 module _ (m : Lists) (ws : List (List ℕ)) (r : Record) where
-  -- the record of a line is of the kind of its first word's form
-  under_form : (o : Option Form) → record_under m o ws ≡ Ok r → (k : Kind) → one_if (place (kind_of r) == place k) ≡ one_if (is_of_kind k o)
-  under_form (Some f) e k = ap (λ j. one_if (place j == place k)) (form_made (λ r. kind_of r ≡ kind_made f) m ws r f (kind_of_made f) e)
-  under_form None e k = absurd (err_no_ok r (if is_unbuilt (word ws 0) then 17 else 4) e)
+  -- the record of a line is of the kind of its form
+  under_form : record_of_words m ws ≡ Ok r → (k : Kind) → one_if (place (kind_of r) == place k) ≡ made_under k ws
+  under_form e k =
+      by_step r (form_of ws) (λ f. record_in m f ws) e (λ f told is.
+      ap (λ j. one_if (place j == place k)) (form_made (λ r. kind_of r ≡ kind_made f) m ws r f (kind_of_made f) is) ∙ ap (λ o. one_if (is_of_kind k o)) (sym told))
 
 -- an accepted record is added
 judged_adds : (m made : Lists) (r : Record) (o : Option ℕ) → judged r o m ≡ Ok made → added m r ≡ made
@@ -105,36 +111,37 @@ judged_adds m made r (Some n) e = absurd (err_no_ok made n e)
 judged_adds m made r None e = ok_same (Ok (added m r)) (added m r) made refl e
 
 -- the header makes no record
-header_makes : (k : Kind) → made_under k (codes "pipeflex") ≡ 0
+header_makes : (k : Kind) (ws : List (List ℕ)) → word ws 0 ≡ codes "pipeflex" → made_under k ws ≡ 0
 unfolding form_of
-header_makes k = refl
+header_makes k [] first = refl
+header_makes k (w ∷ ws) first = ap (λ v. made_under k (v ∷ ws)) first
 
 empty_makes : (k : Kind) → made_under k [] ≡ 0
 unfolding form_of
 empty_makes k = refl
 
 module _ (k : Kind) (s : State) (t : State) where
-  words_made : (ws : List (List ℕ)) → after_words s ws ≡ Ok t → count t.draft k ≡ count s.draft k + made_under k (word ws 0)
+  words_made : (ws : List (List ℕ)) → after_words s ws ≡ Ok t → count t.draft k ≡ count s.draft k + made_under k ws
   words_made ws e =
       by_test t (length ws == 0) _ _ e (λ none e.
       let same : s ≡ t = ok_same (Ok s) s t refl e in
-      let first : made_under k (word ws 0) ≡ 0 = ap (λ l. made_under k (word l 0)) (empty_list ws none) ∙ empty_makes k in
+      let first : made_under k ws ≡ 0 = ap (made_under k) (empty_list ws none) ∙ empty_makes k in
       omega (arith, ap (λ s. count s.draft k) same, first)) (λ _ e.
       by_test t s.header _ _ e (λ _ e.
       by_step t (record_taken s.draft ws) (λ m. Ok (record s { draft = m })) e (λ m is e.
       by_step m (record_of_words s.draft ws) (taken s.draft) is (λ r found is.
       let same : record s { draft = m } ≡ t = ok_same (Ok (record s { draft = m })) (record s { draft = m }) t refl e in
       let adds = judged_adds s.draft m r (refusal s.draft r) is in
-      omega (arith, ap (λ s. count s.draft k) same, ap (λ m. count m k) adds, count_added s.draft r k, under_form s.draft ws r (form_of (word ws 0)) found k)))) (λ _ e.
+      omega (arith, ap (λ s. count s.draft k) same, ap (λ m. count m k) adds, count_added s.draft r k, under_form s.draft ws r found k)))) (λ _ e.
       by_test t (is_header ws) _ _ e (λ header e.
       let same : record s { header = true } ≡ t = ok_same (Ok (record s { header = true })) (record s { header = true }) t refl e in
       let parts = and_parts (length ws == 2 && bytes_eq (word ws 0) (codes "pipeflex")) (bytes_eq (word ws 1) (codes "1")) header in
       let pipeflex = and_parts (length ws == 2) (bytes_eq (word ws 0) (codes "pipeflex")) parts.0 in
-      let first : made_under k (word ws 0) ≡ 0 = ap (made_under k) ((bytes_eq-Decides (word ws 0) (codes "pipeflex")).0 pipeflex.1) ∙ header_makes k in
+      let first : made_under k ws ≡ 0 = header_makes k ws ((bytes_eq-Decides (word ws 0) (codes "pipeflex")).0 pipeflex.1) in
       omega (arith, ap (λ s. count s.draft k) same, first)) (λ _ e. absurd (err_no_ok t 3 e))))
 
-  -- an accepted line makes a record of the kind where its first word does, and else none
-  pub line_made : (line : List ℕ) → after_line s line ≡ Ok t → count t.draft k ≡ count s.draft k + made_under k (word (words line) 0)
+  -- an accepted line makes a record of the kind where its words do, and else none
+  pub line_made : (line : List ℕ) → after_line s line ≡ Ok t → count t.draft k ≡ count s.draft k + made_under k (words line)
   line_made line e = by_test t (list_all is_allowed line) _ _ e (λ _ e. words_made (words line) e) (λ _ e. absurd (err_no_ok t 2 e))
 
 -- the lines before line n are accepted and made so many records of the kind, not more than the number of the one that is looked for,
@@ -160,6 +167,7 @@ none_counted temp_kind = refl
 none_counted pressure_kind = refl
 none_counted force_kind = refl
 none_counted move_kind = refl
+none_counted check_kind = refl
 
 -- nothing has been read
 pub IsReadUpTo-none : (text : List ℕ) (k : Kind) (number : ℕ) → IsReadUpTo text (lines text) k 1 0 number
@@ -197,7 +205,7 @@ module _ (text : List ℕ) (left : List (List ℕ)) (k : Kind) (n made number : 
         absurd (err_no_ok all.0 (record { number = refusal; line = n }) (sym refused ∙ all.1))
 
     -- one more line that doesn't make the record
-    pub IsReadUpTo-more : (later : ℕ) → later ≡ made + made_under k (word (words at) 0) → later ≤ number → IsReadUpTo text behind k (n + 1) later number
+    pub IsReadUpTo-more : (later : ℕ) → later ≡ made + made_under k (words at) → later ≤ number → IsReadUpTo text behind k (n + 1) later number
     IsReadUpTo-more later makes small =
         let new = next_made (after_line up_to.read at) refl in
         let place : n + 1 ≡ length (up_to.before ++ at ∷ []) + 1 = omega (arith, up_to.line_is, length-append up_to.before (at ∷ [])) in
@@ -214,7 +222,7 @@ module _ (text : List ℕ) (left : List (List ℕ)) (k : Kind) (n made number : 
         }
 
     -- the line that makes it
-    pub IsLineOf-next : made ≡ number → made_under k (word (words at) 0) ≡ 1 → IsLineOf text k number n
+    pub IsLineOf-next : made ≡ number → made_under k (words at) ≡ 1 → IsLineOf text k number n
     IsLineOf-next now makes =
         let new = next_made (after_line up_to.read at) refl in
         record {

@@ -7,7 +7,7 @@ use Rattle.model_types.specs.Lists.{no_records}
 use Rattle.text_words.specs.Fields.{lines}
 use Rattle.model_text.specs.Grammar.{after_lines, IsLineOf, LinesAreDetermined, LinesAreTold}
 use Rattle.model_text.specs.Lines.{State, start, after_line, makes, making}
-use Rattle.model_text.specs.Words.{words, word}
+use Rattle.model_text.specs.Words.{words}
 use Rattle.model_text.proofs.KindLines.{line_made, one_if, none_counted}
 use Rattle.model_text.proofs.LineLemmas.{ok_same, err_no_ok, after_lines-nil, after_lines-Ok, after_lines-Err, after_lines-append}
 
@@ -119,9 +119,9 @@ module _ (k : Kind) where
 
   by_making : (s u t : State) (n : ℕ) (x : List ℕ) (xs : List (List ℕ)) → after_line s x ≡ Ok u
       → ((q : ℕ) → count u.draft k + q < count t.draft k → LineFrom u (n + 1) xs k (count u.draft k + q) (told q (n + 1) xs))
-      → (b : Bool) → makes k (word (words x) 0) ≡ b → (q : ℕ) → count s.draft k + q < count t.draft k → LineFrom s n (x ∷ xs) k (count s.draft k + q) (told q n (x ∷ xs))
+      → (b : Bool) → makes k (words x) ≡ b → (q : ℕ) → count s.draft k + q < count t.draft k → LineFrom s n (x ∷ xs) k (count s.draft k + q) (told q n (x ∷ xs))
   by_making s u t n x xs is rest true does zero there =
-      let line : told 0 n (x ∷ xs) ≡ n = ap (λ l. slice_index_or l 0 1) (cond-true (makes k (word (words x) 0)) (n ∷ making k (n + 1) xs) (making k (n + 1) xs) does) in
+      let line : told 0 n (x ∷ xs) ≡ n = ap (λ l. slice_index_or l 0 1) (cond-true (makes k (words x)) (n ∷ making k (n + 1) xs) (making k (n + 1) xs) does) in
       record {
         before = [];
         at = x;
@@ -137,18 +137,18 @@ module _ (k : Kind) where
       }
   by_making s u t n x xs is rest true does (suc q) there =
       let counted : count u.draft k + q ≡ count s.draft k + suc q = omega (arith, line_made k s u x is, ap one_if does) in
-      let line : told (suc q) n (x ∷ xs) ≡ told q (n + 1) xs = ap (λ l. slice_index_or l (suc q) 1) (cond-true (makes k (word (words x) 0)) (n ∷ making k (n + 1) xs) (making k (n + 1) xs) does) in
+      let line : told (suc q) n (x ∷ xs) ≡ told q (n + 1) xs = ap (λ l. slice_index_or l (suc q) 1) (cond-true (makes k (words x)) (n ∷ making k (n + 1) xs) (making k (n + 1) xs) does) in
       subst (LineFrom s n (x ∷ xs) k (count s.draft k + suc q)) (sym line) (behind_first s u n x xs _ _ _ is counted (rest q (omega (arith, counted, there))))
   by_making s u t n x xs is rest false does q there =
       let counted : count u.draft k + q ≡ count s.draft k + q = omega (arith, line_made k s u x is, ap one_if does) in
-      let line : told q n (x ∷ xs) ≡ told q (n + 1) xs = ap (λ l. slice_index_or l q 1) (cond-false (makes k (word (words x) 0)) (n ∷ making k (n + 1) xs) (making k (n + 1) xs) does) in
+      let line : told q n (x ∷ xs) ≡ told q (n + 1) xs = ap (λ l. slice_index_or l q 1) (cond-false (makes k (words x)) (n ∷ making k (n + 1) xs) (making k (n + 1) xs) does) in
       subst (LineFrom s n (x ∷ xs) k (count s.draft k + q)) (sym line) (behind_first s u n x xs _ _ _ is counted (rest q (omega (arith, counted, there))))
 
   by_first : (s t : State) (n : ℕ) (x : List ℕ) (xs : List (List ℕ))
       → ((u : State) → after_lines u (n + 1) xs ≡ Ok t → (q : ℕ) → count u.draft k + q < count t.draft k → LineFrom u (n + 1) xs k (count u.draft k + q) (told q (n + 1) xs))
       → (r : Result State ℕ) → after_line s x ≡ r → after_lines s n (x ∷ xs) ≡ Ok t → (q : ℕ) → count s.draft k + q < count t.draft k
       → LineFrom s n (x ∷ xs) k (count s.draft k + q) (told q n (x ∷ xs))
-  by_first s t n x xs rest (Ok u) is e = by_making s u t n x xs is (rest u (sym (after_lines-Ok s n x xs u is) ∙ e)) (makes k (word (words x) 0)) refl
+  by_first s t n x xs rest (Ok u) is e = by_making s u t n x xs is (rest u (sym (after_lines-Ok s n x xs u is) ∙ e)) (makes k (words x)) refl
   by_first s t n x xs rest (Err number) is e = λ q there. absurd (err_no_ok t (record { number = number; line = n }) (sym (after_lines-Err s n x xs number is) ∙ e))
 
   line_from : (s t : State) (n : ℕ) (all : List (List ℕ)) → after_lines s n all ≡ Ok t → (q : ℕ) → count s.draft k + q < count t.draft k → LineFrom s n all k (count s.draft k + q) (told q n all)

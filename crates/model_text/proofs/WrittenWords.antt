@@ -1,5 +1,5 @@
 -- The words of a canonical text are plain, and are read as what they were written for.
-use Rattle.std.proofs.Common.{◌≡◌, ◌≢◌, ℕ, suc, ◌+◌, ◌^◌, ◌<◌, ◌≤◌, ◌&&◌, ◌==◌, nat_lt, nat_le, not, Bool, true, false, List, [], ◌∷◌, ◌++◌, length, length-append, append_assoc, get_or, ℤ, pos, negsuc, neg_ℤ, ◌≤ℤ◌, int_le, unsigned_abs, IsTrue, codes, position, unwrap_or, Option, Some, None, Result, Ok, Err, AllPairs, nat_eq, int_eq, if◌then◌else◌, refl, sym, ap, ◌∙◌, arith}
+use Rattle.std.proofs.Common.{◌≡◌, ◌≢◌, ℕ, suc, ◌+◌, ◌^◌, ◌<◌, ◌≤◌, ◌&&◌, ◌==◌, nat_lt, nat_le, not, Bool, true, false, List, [], ◌∷◌, ◌++◌, length, length-append, append_assoc, get_or, ℤ, pos, negsuc, neg_ℤ, ◌≤ℤ◌, int_le, unsigned_abs, IsTrue, codes, position, unwrap_or, Option, Some, None, IfSome, Result, Ok, Err, AllPairs, nat_eq, int_eq, if◌then◌else◌, refl, sym, ap, ◌∙◌, arith}
 use Rattle.std.proofs.lemmas.Bool.{and_parts, and_from, cond-true, cond-false, lt-ltb, ltb-true, false_from_ne_true}
 use Rattle.std.proofs.lemmas.Bool.Decides.{nat_tests, Decides-int_eq}
 use Rattle.std.proofs.lemmas.Fmt.{decimal_nonempty, digits_decimal, decimal_digit}
@@ -18,19 +18,21 @@ use Rattle.text_words.specs.Names.{IsName, is_name, is_name_byte}
 use Rattle.text_words.specs.Numbers.{number_of}
 use Rattle.text_words.proofs.NumberLemmas.{own, number_of-IsNumber}
 use Rattle.model_types.specs.declared.records.Record.{Record}
+use Rattle.model_types.specs.declared.ids.CheckId.{CheckId}
+use Rattle.model_types.specs.declared.ids.Space.TheVariants as space_of
 use Rattle.model_types.specs.Lists.{Lists, names_in}
-use Rattle.model_types.specs.Ranges.{IsIn, IsStiffness, IsDirection, TeeInForm}
-use Rattle.model_text.specs.Fields.{◌>>=◌, name_at, is_in, in_range, number_in, angle_at, stiffness_in, is_default, flag_at, connection_at, is_zero, direction_at}
-use Rattle.model_text.specs.Rows.{Field, own_name, name_in, within, bend_angle, stiffness_or_default, flag, connection, direction, first_word, row, Value, Values, width, row_width, made, number_named, read_field, read_row, record_in, name_of, stiffness_word, flag_word, connection_words, field_words, row_words, form_words}
+use Rattle.model_types.specs.Ranges.{IsIn, IsDirection, TeeInForm}
+use Rattle.model_text.specs.Fields.{◌>>=◌, name_at, is_in, in_range, number_in, angle_at, number_or_default, is_default, flag_at, connection_at, is_zero, direction_at}
+use Rattle.model_text.specs.Rows.{Field, own_name, name_in, check_or_none, within, within_or_default, bend_angle, flag, connection, direction, kind_word, first_word, row, Value, Values, width, row_width, made, number_named, check_named, read_field, read_row, record_in, name_of, check_word, number_word, flag_word, connection_words, field_words, row_words, form_words}
 use Rattle.model_types.specs.declared.ranges.Range.{Range}
 use Rattle.model_types.specs.declared.records.TeeKind.{TeeKind}
 use Rattle.model_types.specs.declared.records.TeeKind.TheVariants.{Unreinforced, Pad, Coefficient}
-use Rattle.model_types.specs.declared.ranges.TheConstants.{DIRECTION_PART, PAD_THICKNESS, STIFFNESS, TEE_COEFFICIENT}
+use Rattle.model_types.specs.declared.ranges.TheConstants.{DIRECTION_PART, PAD_THICKNESS, TEE_COEFFICIENT}
 use Rattle.model_text.specs.declared.fields.TheConstants.{ANGLE, FLAG, NOTHING}
 use Rattle.model_text.specs.declared.records.Form.{Form}
 use Rattle.model_text.specs.Words.{word}
 use Rattle.model_text.specs.declared.fields.Direction.{Direction}
-use Rattle.model_text.proofs.PlainWords.{is_plain_byte, IsPlain, ArePlain, no_words, one_more}
+use Rattle.model_text.proofs.PlainWords.{is_plain_byte, is_plain, IsPlain, ArePlain, no_words, one_more}
 
 -- a step that isn't refused hands on its value
 pub after_step : {A B : Type 0} (r : Result A ℕ) (x : A) (f : A → Result B ℕ) (y : Result B ℕ) → r ≡ Ok x → f x ≡ y → (r >>= f) ≡ y
@@ -114,26 +116,27 @@ module _ (range : Range) (n : ℤ) (short : is_short range ≡ true) (is : IsIn 
   unfolding number_in
   reads_number = ap (in_range range) (number_of-IsNumber (signed_decimal n) n (record { form = refl; short = short_number range n short is })) ∙ cond-true (is_in range n) (Ok n) (Err 7) in_its_range
 
--- a stiffness
-pub plain_stiffness : (k : Option ℤ) → IsStiffness k → IsPlain (stiffness_word k)
-plain_stiffness None is = record { passes = refl }
-plain_stiffness (Some k) is = plain_number_in STIFFNESS k refl is
-
 -- a number isn't the default
-default_is_none : (k : ℤ) → number_in STIFFNESS (codes "-") ≡ Ok k → ⊥
+default_is_none : (range : Range) (n : ℤ) → number_in range (codes "-") ≡ Ok n → ⊥
 unfolding number_in number_of
-default_is_none k e = absurd (cc)
+default_is_none range n e = absurd (cc)
 
-no_default : (k : ℤ) → IsIn STIFFNESS k → is_default (signed_decimal k) ≡ false
-no_default k is = false_from_ne_true (is_default (signed_decimal k)) (λ same.
-    let word : signed_decimal k ≡ codes "-" = (bytes_eq-Decides (signed_decimal k) (codes "-")).0 same in
-    let read = reads_number STIFFNESS k refl is in
-    default_is_none k (sym (ap (number_in STIFFNESS) word) ∙ read))
+module _ (range : Range) (short : is_short range ≡ true) where
+  no_default : (n : ℤ) → IsIn range n → is_default (signed_decimal n) ≡ false
+  no_default n is = false_from_ne_true (is_default (signed_decimal n)) (λ same.
+      let word : signed_decimal n ≡ codes "-" = (bytes_eq-Decides (signed_decimal n) (codes "-")).0 same in
+      let read = reads_number range n short is in
+      default_is_none range n (sym (ap (number_in range) word) ∙ read))
 
-pub reads_stiffness : (k : Option ℤ) → IsStiffness k → stiffness_in (stiffness_word k) ≡ Ok k
-unfolding stiffness_in
-reads_stiffness None is = refl
-reads_stiffness (Some k) is = cond-false (is_default (signed_decimal k)) _ _ (no_default k is) ∙ ap (λ r. r >>= λ n. Ok (Some n)) (reads_number STIFFNESS k refl is)
+  -- a number or the default
+  pub plain_or_default : (n : Option ℤ) → IfSome n (IsIn range) → IsPlain (number_word n)
+  plain_or_default None is = record { passes = refl }
+  plain_or_default (Some n) is = plain_number_in range n short is
+
+  pub reads_or_default : (n : Option ℤ) → IfSome n (IsIn range) → number_or_default range (number_word n) ≡ Ok n
+  unfolding number_or_default
+  reads_or_default None is = refl
+  reads_or_default (Some n) is = cond-false (is_default (signed_decimal n)) _ _ (no_default n is) ∙ ap (λ r. r >>= λ n. Ok (Some n)) (reads_number range n short is)
 
 -- 0 or 1
 pub plain_flag : (b : Bool) → IsPlain (flag_word b)
@@ -239,31 +242,56 @@ pub record IsNamed (names : List (List ℕ)) (n : ℕ) : Type 0 where
   pub reads : name_at (get_or names n []) ≡ Ok (get_or names n [])
   pub found : unwrap_or (position (pointwise nat_eq (get_or names n [])) names) 4294967295 ≡ n
 
+-- a check is named, or none is
+abbrev pub IsNamedCheck : Lists → Option CheckId → Type 0
+IsNamedCheck m named = IfSome named (λ id. IsNamed (names_in m space_of.Check) id.0)
+
+plain_check : (m : Lists) (named : Option CheckId) → IsNamedCheck m named → IsPlain (check_word m named)
+plain_check m None is = record { passes = refl }
+plain_check m (Some id) is = is.plain
+
+-- a name isn't the word for none
+name_is_none : (w : List ℕ) → name_at (codes "-") ≡ Ok w → ⊥
+name_is_none w e = absurd (cc)
+
+reads_check : (m : Lists) (named : Option CheckId) → IsNamedCheck m named → check_named m (check_word m named) ≡ Ok named
+reads_check m None is = refl
+reads_check m (Some id) is =
+    let name = name_of m space_of.Check id.0 in
+    let some : is_default name ≡ false = false_from_ne_true (is_default name) (λ none.
+    name_is_none name (sym (ap name_at ((bytes_eq-Decides name (codes "-")).0 none)) ∙ is.reads)) in
+    cond-false (is_default name) _ _ some
+    ∙ after_step (number_named m space_of.Check name) id.0 _ _ (after_step (name_at name) name _ _ is.reads (ap Ok is.found)) refl
+
 -- what a value has to be, so that its words are read as it
 abbrev pub IsInField : Lists → (f : Field) → Value f → Type 0
 IsInField m own_name name = IsName name
 IsInField m (name_in space) n = IsNamed (names_in m space) n
+IsInField m check_or_none named = IsNamedCheck m named
 IsInField m (within range) n = IsIn range n
+IsInField m (within_or_default range) n = IfSome n (IsIn range)
 IsInField m bend_angle n = IsTrue (is_bend_angle n)
-IsInField m stiffness_or_default k = IsStiffness k
 IsInField m flag b = Unit {0}
 IsInField m connection kind = TeeInForm kind
 IsInField m direction d = IsDirection d.x d.y d.z
+IsInField m (kind_word w) _ = Unit {0}
 
 abbrev pub AreInRow : Lists → (fs : List Field) → Values fs → Type 0
 AreInRow m [] vs = Unit {0}
 AreInRow m (f ∷ fs) (v, vs) = IsInField m f v × AreInRow m fs vs
 
--- the numbers of a field have at most 18 digits
+-- the numbers of a field have at most 18 digits, and its own word is plain
 abbrev is_short_field : Field → Bool
 is_short_field own_name = true
 is_short_field (name_in space) = true
+is_short_field check_or_none = true
 is_short_field (within range) = is_short range
+is_short_field (within_or_default range) = is_short range
 is_short_field bend_angle = true
-is_short_field stiffness_or_default = true
 is_short_field flag = true
 is_short_field connection = true
 is_short_field direction = true
+is_short_field (kind_word w) = is_plain w
 
 abbrev pub is_short_row : List Field → Bool
 is_short_row [] = true
@@ -274,34 +302,40 @@ module _ (m : Lists) where
   reads_field own_name v done rest k at short is = ap name_at (word_at done v rest k at) ∙ reads_name v is
   reads_field (name_in space) n done rest k at short is =
       ap (number_named m space) (word_at done (name_of m space n) rest k at) ∙ after_step _ (name_of m space n) _ _ is.reads (ap Ok is.found)
+  reads_field check_or_none v done rest k at short is = ap (check_named m) (word_at done (check_word m v) rest k at) ∙ reads_check m v is
   reads_field (within range) v done rest k at short is = ap (number_in range) (word_at done (signed_decimal v) rest k at) ∙ reads_number range v short is
   reads_field bend_angle n done rest k at short is = ap angle_at (word_at done (decimal n) rest k at) ∙ reads_angle n is
-  reads_field stiffness_or_default v done rest k at short is = ap stiffness_in (word_at done (stiffness_word v) rest k at) ∙ reads_stiffness v is
+  reads_field (within_or_default range) v done rest k at short is = ap (number_or_default range) (word_at done (number_word v) rest k at) ∙ reads_or_default range short v is
   reads_field flag v done rest k at short is = ap flag_at (word_at done (flag_word v) rest k at) ∙ reads_flag v
   reads_field connection v done rest k at short is = reads_connection done rest v k at is
   reads_field direction v done rest k at short is = reads_direction done rest v k at is
+  reads_field (kind_word w) v done rest k at short is = refl
 
   field_plain : (f : Field) (v : Value f) (rest : List (List ℕ)) → is_short_field f ≡ true → IsInField m f v → ArePlain rest → ArePlain (field_words m f v ++ rest)
   field_plain own_name v rest short is plain = one_more _ _ (plain_name v is) plain
   field_plain (name_in space) n rest short is plain = one_more _ _ is.plain plain
+  field_plain check_or_none v rest short is plain = one_more _ _ (plain_check m v is) plain
   field_plain (within range) v rest short is plain = one_more _ _ (plain_number_in range v short is) plain
   field_plain bend_angle n rest short is plain = one_more _ _ (plain_angle n is) plain
-  field_plain stiffness_or_default v rest short is plain = one_more _ _ (plain_stiffness v is) plain
+  field_plain (within_or_default range) v rest short is plain = one_more _ _ (plain_or_default range short v is) plain
   field_plain flag v rest short is plain = one_more _ _ (plain_flag v) plain
   field_plain connection v rest short is plain = plain_connection v rest is plain
   field_plain direction v rest short is plain =
       one_more _ _ (plain_number_in DIRECTION_PART v.x refl is.x_part)
       (one_more _ _ (plain_number_in DIRECTION_PART v.y refl is.y_part) (one_more _ _ (plain_number_in DIRECTION_PART v.z refl is.z_part) plain))
+  field_plain (kind_word w) v rest short is plain = one_more _ _ (record { passes = short }) plain
 
   length-field : (f : Field) (v : Value f) → length (field_words m f v) ≡ width f
   length-field own_name v = refl
   length-field (name_in space) v = refl
+  length-field check_or_none v = refl
   length-field (within range) v = refl
   length-field bend_angle v = refl
-  length-field stiffness_or_default v = refl
+  length-field (within_or_default range) v = refl
   length-field flag v = refl
   length-field connection v = length-connection v
   length-field direction v = refl
+  length-field (kind_word w) v = refl
 
   length-row : (fs : List Field) (vs : Values fs) → length (row_words m fs vs) ≡ row_width fs
   length-row [] vs = refl

@@ -7,7 +7,7 @@ use Rattle.angle_table.specs.HalfAngle.{is_bend_angle}
 use Rattle.model_types.specs.declared.ranges.Range.{Range}
 use Rattle.model_types.specs.declared.records.TeeKind.{TeeKind}
 use Rattle.model_types.specs.declared.records.TeeKind.TheVariants.{Unreinforced, Pad, Coefficient}
-use Rattle.model_types.specs.declared.ranges.TheConstants.{DIRECTION_PART, PAD_THICKNESS, STIFFNESS, TEE_COEFFICIENT}
+use Rattle.model_types.specs.declared.ranges.TheConstants.{DIRECTION_PART, PAD_THICKNESS, TEE_COEFFICIENT}
 use Rattle.model_text.specs.declared.fields.TheConstants.{ANGLE, FLAG, NOTHING}
 use Rattle.text_words.specs.Numbers.{number_of}
 use Rattle.text_words.specs.declared.numbers.NumberFault.{NumberFault}
@@ -45,9 +45,9 @@ number_in range w = in_range range (number_of w)
 abbrev pub is_default : List ℕ → Bool
 is_default w = bytes_eq w (codes "-")
 
--- a stiffness, or the default
-unfoldable pub stiffness_in : List ℕ → Result (Option ℤ) ℕ
-stiffness_in w = if is_default w then Ok None else (number_in STIFFNESS w >>= λ k. Ok (Some k))
+-- a number in a range, or the default
+unfoldable pub number_or_default : Range → List ℕ → Result (Option ℤ) ℕ
+number_or_default range w = if is_default w then Ok None else (number_in range w >>= λ n. Ok (Some n))
 
 -- the angle of a bend: 7 where it is none of the six
 unfoldable pub angle_at : List ℕ → Result ℕ ℕ

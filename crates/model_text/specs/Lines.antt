@@ -53,18 +53,18 @@ after_words s ws =
 abbrev pub after_line : State → List ℕ → Result State ℕ
 after_line s line = if list_all is_allowed line then after_words s (words line) else Err 2
 
--- whether a line of that first word makes a record of a kind
-abbrev pub is_of_kind : Kind → Option Form → Bool
-is_of_kind k None = false
-is_of_kind k (Some f) = place (kind_made f) == place k
+-- whether a line of these words makes a record of a kind
+abbrev pub is_of_kind : Kind → Result Form ℕ → Bool
+is_of_kind k (Err n) = false
+is_of_kind k (Ok f) = place (kind_made f) == place k
 
-abbrev pub makes : Kind → List ℕ → Bool
-makes k w = is_of_kind k (form_of w)
+abbrev pub makes : Kind → List (List ℕ) → Bool
+makes k ws = is_of_kind k (form_of ws)
 
 -- the numbers, from n on, of the lines that make records of a kind
 abbrev pub making : Kind → ℕ → List (List ℕ) → List ℕ
 making k n [] = []
-making k n (line ∷ rest) = if makes k (word (words line) 0) then n ∷ making k (n + 1) rest else making k (n + 1) rest
+making k n (line ∷ rest) = if makes k (words line) then n ∷ making k (n + 1) rest else making k (n + 1) rest
 
 -- the line of the record of that number of a kind
 abbrev pub making_line : Kind → ℕ → List (List ℕ) → ℕ

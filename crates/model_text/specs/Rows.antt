@@ -1,5 +1,5 @@
 -- The table of records: the row of fields of each form of record, and how such a row is read and written.
-use Rattle.std.specs.Prelude.{ℕ, ◌+◌, ◌==◌, not, Bool, ℤ, List, [], ◌∷◌, ◌++◌, length, Option, Some, None, Result, Ok, unwrap_or, if◌then◌else◌, codes}
+use Rattle.std.specs.Prelude.{ℕ, ◌+◌, ◌==◌, nat_lt, not, Bool, ℤ, List, [], ◌∷◌, ◌++◌, length, Option, Some, None, Result, Ok, Err, unwrap_or, if◌then◌else◌, codes}
 use Rattle.std.specs.Fmt.{decimal, signed_decimal}
 use Rattle.std.specs.List.{slice_index_or}
 use Rattle.std.specs.Str.{bytes_eq}
@@ -11,31 +11,37 @@ use Rattle.model_types.specs.declared.records.TeeKind.{TeeKind}
 use Rattle.model_types.specs.declared.records.TeeKind.TheVariants.{Unreinforced, Pad, Coefficient}
 use Rattle.model_types.specs.declared.records.RestraintKind.{RestraintKind}
 use Rattle.model_types.specs.declared.records.RestraintKind.TheVariants.{Anchor, Linear, Twist, Oneway, Gap, Hanger}
+use Rattle.model_types.specs.declared.records.CheckKind.{CheckKind}
+use Rattle.model_types.specs.declared.records.CheckKind.TheVariants as check
+use Rattle.model_types.specs.declared.ids.CheckId.{CheckId}
 use Rattle.model_types.specs.declared.records.Record.{Record}
 use Rattle.model_types.specs.declared.records.Record.TheVariants as record_of
 use Rattle.model_types.specs.Lists.{Lists, names_in, record_number}
 use Rattle.model_types.specs.declared.ranges.Range.{Range}
-use Rattle.model_types.specs.declared.ranges.TheConstants.{ACCELERATION, BEND_RADIUS, COORDINATE, CORNER, DENSITY, DIAMETER, EXPANSION, EXTRA_WEIGHT, GAP, HANGER_LOAD, LOAD, MODULUS, MOVEMENT, POISSON_RATIO, PRESSURE, STIFFNESS, TEMPERATURE_CHANGE, WALL, WALL_ALLOWANCE}
-use Rattle.model_types.specs.Kinds.{Kind, material_kind, section_kind, node_kind, element_kind, tee_kind, restraint_kind, case_kind, temp_kind, pressure_kind, force_kind, move_kind}
+use Rattle.model_types.specs.declared.ranges.TheConstants.{ACCELERATION, ALLOWABLE_STRESS, BEND_RADIUS, COORDINATE, CORNER, CYCLES, CYCLE_FACTOR, DENSITY, DIAMETER, EXPANSION, EXTRA_WEIGHT, GAP, HANGER_LOAD, LOAD, MODULUS, MOVEMENT, OCCASIONAL_PERCENT, POISSON_RATIO, PRESSURE, STIFFNESS, TEMPERATURE_CHANGE, WALL, WALL_ALLOWANCE}
+use Rattle.model_types.specs.Kinds.{Kind, material_kind, section_kind, node_kind, element_kind, tee_kind, restraint_kind, case_kind, temp_kind, pressure_kind, force_kind, move_kind, check_kind}
 use Rattle.model_text.specs.declared.records.Form.{Form}
 use Rattle.model_text.specs.declared.records.Form.TheVariants as form
 use Rattle.model_text.specs.declared.fields.Direction.{Direction}
-use Rattle.model_text.specs.Fields.{◌>>=◌, refuse_if, name_at, number_in, angle_at, stiffness_in, flag_at, connection_at, direction_at}
+use Rattle.model_text.specs.Fields.{◌>>=◌, refuse_if, name_at, number_in, angle_at, is_default, number_or_default, flag_at, connection_at, direction_at}
 use Rattle.model_text.specs.Words.{word}
 
--- what a field of a row holds: the record's own name, the name of another record, a number in a range, the angle of a bend, a
--- stiffness or `-`, 0 or 1, how a tee is made, or the three parts of a direction
+-- what a field of a row holds: the record's own name, the name of another record, that of a check or `-` for none, a number in a range, that or
+-- `-` for the default, the angle of a bend, 0 or 1, how a tee is made, the three parts of a direction, or the word of the kind by which
+-- the form was found
 pub data Field : Type 0 where
   own_name : Field
   name_in : Space → Field
+  check_or_none : Field
   within : Range → Field
+  within_or_default : Range → Field
   bend_angle : Field
-  stiffness_or_default : Field
   flag : Field
   connection : Field
   direction : Field
+  kind_word : List ℕ → Field
 
--- the first word of each form of record
+-- the first word of each form of record; the three forms of a check have one
 abbrev pub first_word : Form → List ℕ
 first_word form.Material = codes "material"
 first_word form.Section = codes "section"
@@ -54,7 +60,11 @@ first_word form.Temp = codes "temp"
 first_word form.Pressure = codes "pressure"
 first_word form.Force = codes "force"
 first_word form.Move = codes "move"
+first_word form.Sustained = codes "check"
+first_word form.Occasional = codes "check"
+first_word form.Expansion = codes "check"
 
+-- the forms that their first word tells
 abbrev pub forms : List Form
 forms =
     form.Material ∷ form.Section ∷ form.Node ∷ form.Straight ∷ form.Bend ∷ form.Tee ∷ form.Anchor ∷ form.Linear ∷ form.Twist ∷ form.Oneway ∷ form.Gap ∷ form.Hanger
@@ -65,9 +75,28 @@ abbrev pub form_among : List ℕ → List Form → Option Form
 form_among w [] = None
 form_among w (f ∷ fs) = if bytes_eq w (first_word f) then Some f else form_among w fs
 
--- the form with that first word
-unfoldable pub form_of : List ℕ → Option Form
-form_of w = form_among w forms
+-- the form of a check, by the word of its kind: 9 where that is none of the three
+abbrev pub check_form : List ℕ → Result Form ℕ
+check_form w =
+    if bytes_eq w (codes "sustained") then Ok form.Sustained else
+    if bytes_eq w (codes "occasional") then Ok form.Occasional else
+    if bytes_eq w (codes "expansion") then Ok form.Expansion else
+    Err 9
+
+-- the form of a line that the first word doesn't tell: that of a check, by its third word, 5 where it has none; 4 where no record has
+-- the first word
+abbrev pub untold_form : List (List ℕ) → Result Form ℕ
+untold_form ws =
+    if bytes_eq (word ws 0) (codes "check") then (refuse_if (nat_lt (length ws) 3) 5 >>= λ _. check_form (word ws 2)) else
+    Err 4
+
+abbrev pub form_by : Option Form → List (List ℕ) → Result Form ℕ
+form_by (Some f) ws = Ok f
+form_by None ws = untold_form ws
+
+-- the form of a line of these words, or the number that refuses it
+unfoldable pub form_of : List (List ℕ) → Result Form ℕ
+form_of ws = form_by (form_among (word ws 0) forms) ws
 
 -- the kind of the records of a form
 abbrev pub kind_made : Form → Kind
@@ -88,6 +117,9 @@ kind_made form.Temp = temp_kind
 kind_made form.Pressure = pressure_kind
 kind_made form.Force = force_kind
 kind_made form.Move = move_kind
+kind_made form.Sustained = check_kind
+kind_made form.Occasional = check_kind
+kind_made form.Expansion = check_kind
 
 -- the fields behind the first word
 abbrev pub row : Form → List Field
@@ -98,28 +130,36 @@ row form.Straight = own_name ∷ name_in space_of.Node ∷ name_in space_of.Node
 row form.Bend =
     own_name ∷ name_in space_of.Node ∷ name_in space_of.Node ∷ name_in space_of.Section ∷ within BEND_RADIUS ∷ bend_angle ∷ within CORNER ∷ within CORNER ∷ within CORNER ∷ []
 row form.Tee = name_in space_of.Node ∷ name_in space_of.Element ∷ name_in space_of.Section ∷ connection ∷ []
-row form.Anchor = own_name ∷ name_in space_of.Node ∷ stiffness_or_default ∷ stiffness_or_default ∷ []
-row form.Linear = own_name ∷ name_in space_of.Node ∷ direction ∷ stiffness_or_default ∷ []
-row form.Twist = own_name ∷ name_in space_of.Node ∷ direction ∷ stiffness_or_default ∷ []
-row form.Oneway = own_name ∷ name_in space_of.Node ∷ direction ∷ within GAP ∷ stiffness_or_default ∷ []
-row form.Gap = own_name ∷ name_in space_of.Node ∷ direction ∷ within GAP ∷ stiffness_or_default ∷ []
+row form.Anchor = own_name ∷ name_in space_of.Node ∷ within_or_default STIFFNESS ∷ within_or_default STIFFNESS ∷ []
+row form.Linear = own_name ∷ name_in space_of.Node ∷ direction ∷ within_or_default STIFFNESS ∷ []
+row form.Twist = own_name ∷ name_in space_of.Node ∷ direction ∷ within_or_default STIFFNESS ∷ []
+row form.Oneway = own_name ∷ name_in space_of.Node ∷ direction ∷ within GAP ∷ within_or_default STIFFNESS ∷ []
+row form.Gap = own_name ∷ name_in space_of.Node ∷ direction ∷ within GAP ∷ within_or_default STIFFNESS ∷ []
 row form.Hanger = own_name ∷ name_in space_of.Node ∷ within STIFFNESS ∷ within HANGER_LOAD ∷ []
 row form.Case = own_name ∷ within ACCELERATION ∷ within ACCELERATION ∷ within ACCELERATION ∷ flag ∷ within TEMPERATURE_CHANGE ∷ within PRESSURE ∷ []
 row form.Temp = name_in space_of.Case ∷ name_in space_of.Section ∷ within TEMPERATURE_CHANGE ∷ []
 row form.Pressure = name_in space_of.Case ∷ name_in space_of.Section ∷ within PRESSURE ∷ []
 row form.Force = name_in space_of.Case ∷ name_in space_of.Node ∷ within LOAD ∷ within LOAD ∷ within LOAD ∷ within LOAD ∷ within LOAD ∷ within LOAD ∷ []
 row form.Move = name_in space_of.Case ∷ name_in space_of.Restraint ∷ within MOVEMENT ∷ within MOVEMENT ∷ within MOVEMENT ∷ []
+row form.Sustained = own_name ∷ kind_word (codes "sustained") ∷ name_in space_of.Case ∷ within ALLOWABLE_STRESS ∷ []
+row form.Occasional = own_name ∷ kind_word (codes "occasional") ∷ name_in space_of.Case ∷ within ALLOWABLE_STRESS ∷ within_or_default OCCASIONAL_PERCENT ∷ []
+row form.Expansion =
+    own_name ∷ kind_word (codes "expansion") ∷ name_in space_of.Case ∷ name_in space_of.Case ∷ within ALLOWABLE_STRESS ∷ within ALLOWABLE_STRESS ∷ within CYCLES
+    ∷ within CYCLE_FACTOR ∷ check_or_none ∷ []
 
--- what a field gives: a name, the number of the record named, a whole number, an angle, a stiffness, a flag, a kind of tee, a direction
+-- what a field gives: a name, the number of the record named, a check or none, a whole number or none, an angle, a flag, a kind of tee, a
+-- direction, or nothing
 abbrev pub Value : Field → Type 0
 Value own_name = List ℕ
 Value (name_in space) = ℕ
+Value check_or_none = Option CheckId
 Value (within range) = ℤ
+Value (within_or_default range) = Option ℤ
 Value bend_angle = ℕ
-Value stiffness_or_default = Option ℤ
 Value flag = Bool
 Value connection = TeeKind
 Value direction = Direction
+Value (kind_word w) = Unit {0}
 
 abbrev pub Values : List Field → Type 0
 Values [] = Unit {0}
@@ -129,12 +169,14 @@ Values (f ∷ fs) = Value f × Values fs
 abbrev pub width : Field → ℕ
 width own_name = 1
 width (name_in space) = 1
+width check_or_none = 1
 width (within range) = 1
+width (within_or_default range) = 1
 width bend_angle = 1
-width stiffness_or_default = 1
 width flag = 1
 width connection = 2
 width direction = 3
+width (kind_word w) = 1
 
 abbrev pub row_width : List Field → ℕ
 row_width [] = 0
@@ -164,6 +206,10 @@ made form.Pressure (case, (section, (p, _))) = record_of.Pressure (record { case
 made form.Force (case, (node, (fx, (fy, (fz, (mx, (my, (mz, _)))))))) =
     record_of.Force (record { case = record { 0 = case }; node = record { 0 = node }; fx = fx; fy = fy; fz = fz; mx = mx; my = my; mz = mz })
 made form.Move (case, (anchor, (x, (y, (z, _))))) = record_of.Move (record { case = record { 0 = case }; anchor = record { 0 = anchor }; x = x; y = y; z = z })
+made form.Sustained (name, (_, (case, (sh, _)))) = record_of.Check (record { name = name; kind = check.Sustained (record { 0 = case }) sh })
+made form.Occasional (name, (_, (case, (sh, (percent, _))))) = record_of.Check (record { name = name; kind = check.Occasional (record { 0 = case }) sh percent })
+made form.Expansion (name, (_, (case1, (case2, (sc, (sh, (cycles, (fm, (sus, _))))))))) =
+    record_of.Check (record { name = name; kind = check.Expansion (record { 0 = case1 }) (record { 0 = case2 }) sc sh cycles fm sus })
 
 -- ---- reading
 
@@ -175,16 +221,22 @@ number_or_none m space name = unwrap_or (record_number m space name) 4294967295
 abbrev pub number_named : Lists → Space → List ℕ → Result ℕ ℕ
 number_named m space w = name_at w >>= λ name. Ok (number_or_none m space name)
 
+-- the check that a word names, or none where it is `-`
+abbrev pub check_named : Lists → List ℕ → Result (Option CheckId) ℕ
+check_named m w = if is_default w then Ok None else (number_named m space_of.Check w >>= λ number. Ok (Some (record { 0 = number })))
+
 -- what a field gives whose first word is word k
 abbrev pub read_field : Lists → (f : Field) → List (List ℕ) → ℕ → Result (Value f) ℕ
 read_field m own_name ws k = name_at (word ws k)
 read_field m (name_in space) ws k = number_named m space (word ws k)
+read_field m check_or_none ws k = check_named m (word ws k)
 read_field m (within range) ws k = number_in range (word ws k)
+read_field m (within_or_default range) ws k = number_or_default range (word ws k)
 read_field m bend_angle ws k = angle_at (word ws k)
-read_field m stiffness_or_default ws k = stiffness_in (word ws k)
 read_field m flag ws k = flag_at (word ws k)
 read_field m connection ws k = connection_at ws k
 read_field m direction ws k = direction_at ws k
+read_field m (kind_word w) ws k = Ok tt
 
 -- what the fields from word k on give, from the left, or the number of the first that is refused
 abbrev pub read_row : Lists → (fs : List Field) → List (List ℕ) → ℕ → (Values fs → Record) → Result Record ℕ
@@ -201,10 +253,15 @@ record_in m f ws = refuse_if (not (length ws == 1 + row_width (row f))) 5 >>= λ
 abbrev pub name_of : Lists → Space → ℕ → List ℕ
 name_of m space number = slice_index_or (names_in m space) number []
 
--- a stiffness, or `-` for the default
-abbrev pub stiffness_word : Option ℤ → List ℕ
-stiffness_word None = codes "-"
-stiffness_word (Some k) = signed_decimal k
+-- the name of a check, or `-` for none
+abbrev pub check_word : Lists → Option CheckId → List ℕ
+check_word m None = codes "-"
+check_word m (Some id) = name_of m space_of.Check id.0
+
+-- a number, or `-` for the default
+abbrev pub number_word : Option ℤ → List ℕ
+number_word None = codes "-"
+number_word (Some n) = signed_decimal n
 
 abbrev pub flag_word : Bool → List ℕ
 flag_word b = if b then codes "1" else codes "0"
@@ -218,12 +275,14 @@ connection_words (Coefficient c) = codes "coefficient" ∷ signed_decimal c ∷ 
 abbrev pub field_words : Lists → (f : Field) → Value f → List (List ℕ)
 field_words m own_name name = name ∷ []
 field_words m (name_in space) number = name_of m space number ∷ []
+field_words m check_or_none named = check_word m named ∷ []
 field_words m (within range) n = signed_decimal n ∷ []
+field_words m (within_or_default range) n = number_word n ∷ []
 field_words m bend_angle n = decimal n ∷ []
-field_words m stiffness_or_default k = stiffness_word k ∷ []
 field_words m flag b = flag_word b ∷ []
 field_words m connection kind = connection_words kind
 field_words m direction d = signed_decimal d.x ∷ signed_decimal d.y ∷ signed_decimal d.z ∷ []
+field_words m (kind_word w) _ = w ∷ []
 
 abbrev pub row_words : Lists → (fs : List Field) → Values fs → List (List ℕ)
 row_words m [] vs = []
@@ -247,6 +306,13 @@ restraint_words m name node (Oneway dx dy dz gap k) = form_words m form.Oneway (
 restraint_words m name node (Gap dx dy dz gap k) = form_words m form.Gap (name, (node, (record { x = dx; y = dy; z = dz }, (gap, (k, tt)))))
 restraint_words m name node (Hanger rate load) = form_words m form.Hanger (name, (node, (rate, (load, tt))))
 
+-- those of a check, by its kind
+abbrev pub check_words : Lists → List ℕ → CheckKind → List (List ℕ)
+check_words m name (check.Sustained case sh) = form_words m form.Sustained (name, (tt, (case.0, (sh, tt))))
+check_words m name (check.Occasional case sh percent) = form_words m form.Occasional (name, (tt, (case.0, (sh, (percent, tt)))))
+check_words m name (check.Expansion case1 case2 sc sh cycles fm sus) =
+    form_words m form.Expansion (name, (tt, (case1.0, (case2.0, (sc, (sh, (cycles, (fm, (sus, tt)))))))))
+
 -- those of a record
 abbrev pub words_of : Lists → Record → List (List ℕ)
 words_of m (record_of.Material r) = form_words m form.Material (r.name, (r.e, (r.nu, (r.alpha, (r.rho, tt)))))
@@ -260,3 +326,4 @@ words_of m (record_of.Temp r) = form_words m form.Temp (r.case.0, (r.section.0, 
 words_of m (record_of.Pressure r) = form_words m form.Pressure (r.case.0, (r.section.0, (r.p, tt)))
 words_of m (record_of.Force r) = form_words m form.Force (r.case.0, (r.node.0, (r.fx, (r.fy, (r.fz, (r.mx, (r.my, (r.mz, tt))))))))
 words_of m (record_of.Move r) = form_words m form.Move (r.case.0, (r.anchor.0, (r.x, (r.y, (r.z, tt)))))
+words_of m (record_of.Check r) = check_words m r.name r.kind

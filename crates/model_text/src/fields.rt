@@ -1,12 +1,12 @@
 //! The fields of a record: what a word gives, or the number that refuses it.
-ghost use Rattle.std.specs.Prelude.{◌≡◌, ◌↔◌, pos, IsTrue, IfOk};
+ghost use Rattle.std.specs.Prelude.{◌≡◌, ◌↔◌, pos, IsTrue, IfOk, IfSome};
 ghost use Rattle.text_words.specs.Names.{IsName};
-ghost use Rattle.model_types.specs.Ranges.{IsIn, IsStiffness, IsDirection, TeeInForm};
+ghost use Rattle.model_types.specs.Ranges.{IsIn, IsDirection, TeeInForm};
 ghost use Rattle.angle_table.specs.HalfAngle.{is_bend_angle};
 ghost use Rattle.model_text.specs.Fields as field;
 
 use crate::words::Words;
-use model_types::ranges::{DIRECTION_PART, PAD_THICKNESS, STIFFNESS, TEE_COEFFICIENT};
+use model_types::ranges::{DIRECTION_PART, PAD_THICKNESS, TEE_COEFFICIENT};
 use model_types::{Name, Range, TeeKind};
 use text_words::{NumberFault, number};
 
@@ -48,17 +48,24 @@ fn is_in(n: i64, range: Range) -> bool
     range.least <= n && n <= range.most
 }
 
-/// A stiffness, or `None` for the default.
-#[tactic(auto, unfolding(crate::specs::Fields::stiffness_in))]
-pub(crate) fn stiffness_in(word: &[u8]) -> Result<Option<i64>, u8>
-    ensures value { result ≡ field.stiffness_in word.now }
-    ensures range { IfOk result IsStiffness }
+/// A number in a range, or `None` for the default.
+#[tactic(auto, unfolding(crate::specs::Fields::number_or_default))]
+pub(crate) fn number_or_default(word: &[u8], range: Range) -> Result<Option<i64>, u8>
+    ensures value { result ≡ field.number_or_default range word.now }
+    ensures range { IfOk result (λ n. IfSome n (IsIn range)) }
 {
-    if word == b"-".as_slice() {
+    if is_default(word) {
         return Ok(None);
     }
-    let k = number_in(word, STIFFNESS)?;
-    Ok(Some(k))
+    let n = number_in(word, range)?;
+    Ok(Some(n))
+}
+
+/// Whether a word is `-`, which stands for a default.
+pub(crate) fn is_default(word: &[u8]) -> bool
+    ensures { result ≡ field.is_default word.now }
+{
+    word == b"-".as_slice()
 }
 
 // What stands for no number.

@@ -8,7 +8,7 @@ ghost use Rattle.model_text.specs.Lines as line_of;
 ghost use Rattle.model_text.specs.Lines.{start};
 ghost use Rattle.model_text.specs.Grammar as grammar;
 ghost use Rattle.model_text.specs.Rows.{kind_made};
-ghost use Rattle.model_text.specs.Words.{words, word};
+ghost use Rattle.model_text.specs.Words.{words};
 ghost use Rattle.text_words.specs.Fields.{lines};
 
 use crate::records::{Form, form_of, record_of_words};
@@ -186,13 +186,13 @@ fn record_line(text: &[u8], form: Form, number: u32) -> u32
     unreachable!()
 }
 
-// Whether a line's first word makes a record of the kind of a form.
+// Whether a line makes a record of the kind of a form.
 fn makes(line: &[u8], form: Form) -> bool
-    ensures { result ≡ line_of.makes (kind_made form) (word (words line.now) 0) }
+    ensures { result ≡ line_of.makes (kind_made form) (words line.now) }
 {
-    match form_of(Words::of(line).word(0)) {
-        Some(found) => place(found) == place(form),
-        None => false,
+    match form_of(&Words::of(line)) {
+        Ok(found) => place(found) == place(form),
+        Err(_) => false,
     }
 }
 
@@ -213,6 +213,7 @@ fn place(form: Form) -> u8
         Form::Pressure => 8,
         Form::Force => 9,
         Form::Move => 10,
+        Form::Sustained | Form::Occasional | Form::Expansion => 11,
     }
 }
 
@@ -285,7 +286,7 @@ fn sine_for(found: &Record) -> Bounds
         Record::Material(_) | Record::Section(_) | Record::Node(_) => NO_SINE,
         Record::Tee(_) | Record::Restraint(_) => NO_SINE,
         Record::Case(_) | Record::Temp(_) | Record::Pressure(_) => NO_SINE,
-        Record::Force(_) | Record::Move(_) => NO_SINE,
+        Record::Force(_) | Record::Move(_) | Record::Check(_) => NO_SINE,
     }
 }
 

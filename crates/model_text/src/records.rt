@@ -6,18 +6,20 @@ ghost use Rattle.model_text.specs.Records as record_of;
 ghost use Rattle.model_text.specs.Rows as row_of;
 
 use crate::fields::{
-    angle_at, connection_of, direction_of, flag_at, name_at, number_in, refuse_if, stiffness_in,
+    angle_at, connection_of, direction_of, flag_at, is_default, name_at, number_in,
+    number_or_default, refuse_if,
 };
 use crate::words::Words;
 use model_types::ranges::{
-    ACCELERATION, BEND_RADIUS, COORDINATE, CORNER, DENSITY, DIAMETER, EXPANSION, EXTRA_WEIGHT, GAP,
-    HANGER_LOAD, LOAD, MODULUS, MOVEMENT, POISSON_RATIO, PRESSURE, STIFFNESS, TEMPERATURE_CHANGE,
-    WALL, WALL_ALLOWANCE,
+    ACCELERATION, ALLOWABLE_STRESS, BEND_RADIUS, COORDINATE, CORNER, CYCLE_FACTOR, CYCLES, DENSITY,
+    DIAMETER, EXPANSION, EXTRA_WEIGHT, GAP, HANGER_LOAD, LOAD, MODULUS, MOVEMENT,
+    OCCASIONAL_PERCENT, POISSON_RATIO, PRESSURE, STIFFNESS, TEMPERATURE_CHANGE, WALL,
+    WALL_ALLOWANCE,
 };
 use model_types::{
-    Case, CaseId, Draft, Element, ElementId, Force, Material, MaterialId, Move, Node, NodeId,
-    Pressure, Record, Restraint, RestraintId, RestraintKind, Section, SectionId, Shape, Space, Tee,
-    Temp,
+    Case, CaseId, Check, CheckId, CheckKind, Draft, Element, ElementId, Force, Material,
+    MaterialId, Move, Node, NodeId, Pressure, Record, Restraint, RestraintId, RestraintKind,
+    Section, SectionId, Shape, Space, Tee, Temp,
 };
 
 /// The forms of records, each with a first word of its own.
@@ -40,12 +42,52 @@ pub(crate) enum Form {
     Pressure,
     Force,
     Move,
+    Sustained,
+    Occasional,
+    Expansion,
 }
 
-/// The form with that first word.
+/// The form of a line, told by its first word, and for a check by its third; or the number that refuses the line: 4, 5 or 9.
 #[tactic(auto, unfolding(crate::specs::Rows::form_of))]
-pub(crate) fn form_of(word: &[u8]) -> Option<Form>
-    ensures { result ≡ row_of.form_of word.now }
+pub(crate) fn form_of(line: &Words) -> Result<Form, u8>
+    ensures { result ≡ row_of.form_of line.now }
+{
+    match form_told_by(line.word(0)) {
+        Some(form) => Ok(form),
+        None => untold_form(line),
+    }
+}
+
+// The form of a line that its first word doesn't tell.
+fn untold_form(line: &Words) -> Result<Form, u8>
+    ensures { result ≡ row_of.untold_form line.now }
+{
+    if line.word(0) != b"check".as_slice() {
+        return Err(4);
+    }
+    refuse_if(line.count() < 3, 5)?;
+    check_form(line.word(2))
+}
+
+// The form of a check, by the word of its kind.
+fn check_form(kind: &[u8]) -> Result<Form, u8>
+    ensures { result ≡ row_of.check_form kind.now }
+{
+    if kind == b"sustained".as_slice() {
+        return Ok(Form::Sustained);
+    }
+    if kind == b"occasional".as_slice() {
+        return Ok(Form::Occasional);
+    }
+    if kind == b"expansion".as_slice() {
+        return Ok(Form::Expansion);
+    }
+    Err(9)
+}
+
+// The form that a first word tells.
+fn form_told_by(word: &[u8]) -> Option<Form>
+    ensures { result ≡ row_of.form_among word.now row_of.forms }
 {
     if word == b"material".as_slice() {
         return Some(Form::Material);
@@ -101,16 +143,13 @@ pub(crate) fn form_of(word: &[u8]) -> Option<Form>
     None
 }
 
-/// The record of a line that has words, or the number that refuses it: 4, 5, 6, 7 or 17.
+/// The record of a line that has words, or the number that refuses it: 4, 5, 6, 7, or 9 for a kind word that is none.
 pub(crate) fn record_of_words(draft: &Draft, line: &Words) -> Result<Record, u8>
     ensures value { result ≡ record_of.record_of_words draft.now line.now }
     ensures form { IfOk result InForm }
 {
-    let first = line.word(0);
-    match form_of(first) {
-        Some(form) => record_in(draft, form, line),
-        None => Err(if is_unbuilt(first) { 17 } else { 4 }),
-    }
+    let form = form_of(line)?;
+    record_in(draft, form, line)
 }
 
 // The record of a line in that form.
@@ -136,14 +175,10 @@ fn record_in(draft: &Draft, form: Form, line: &Words) -> Result<Record, u8>
         Form::Pressure => pressure(draft, line),
         Form::Force => force(draft, line),
         Form::Move => movement(draft, line),
+        Form::Sustained => sustained(draft, line),
+        Form::Occasional => occasional(draft, line),
+        Form::Expansion => expansion(draft, line),
     }
-}
-
-// Whether a word's record isn't read yet.
-fn is_unbuilt(word: &[u8]) -> bool
-    ensures { result ≡ record_of.is_unbuilt word.now }
-{
-    word == b"check".as_slice()
 }
 
 // The number of the record that a word names, or 4294967295, which is no record's: 7 where the word isn't a name.
@@ -152,6 +187,17 @@ fn number_named(draft: &Draft, space: Space, word: &[u8]) -> Result<u32, u8>
 {
     let name = name_at(word)?;
     Ok(draft.find(space, &name).unwrap_or(u32::MAX))
+}
+
+// The check that a word names, as above, or `None` where it is `-`.
+fn check_named(draft: &Draft, word: &[u8]) -> Result<Option<CheckId>, u8>
+    ensures { result ≡ row_of.check_named draft.now word.now }
+{
+    if is_default(word) {
+        return Ok(None);
+    }
+    let number = number_named(draft, Space::Check, word)?;
+    Ok(Some(CheckId(number)))
 }
 
 // material NAME E NU ALPHA RHO
@@ -285,8 +331,8 @@ fn anchor(draft: &Draft, line: &Words) -> Result<Record, u8>
     refuse_if(line.count() != 5, 5)?;
     let name = name_at(line.word(1))?;
     let node = NodeId(number_named(draft, Space::Node, line.word(2))?);
-    let kt = stiffness_in(line.word(3))?;
-    let kr = stiffness_in(line.word(4))?;
+    let kt = number_or_default(line.word(3), STIFFNESS)?;
+    let kr = number_or_default(line.word(4), STIFFNESS)?;
     let kind = RestraintKind::Anchor { kt, kr };
     Ok(Record::Restraint(Restraint { name, node, kind }))
 }
@@ -300,7 +346,7 @@ fn linear(draft: &Draft, line: &Words) -> Result<Record, u8>
     let name = name_at(line.word(1))?;
     let node = NodeId(number_named(draft, Space::Node, line.word(2))?);
     let d = direction_of(line)?;
-    let k = stiffness_in(line.word(6))?;
+    let k = number_or_default(line.word(6), STIFFNESS)?;
     let kind = RestraintKind::Linear {
         dx: d.x,
         dy: d.y,
@@ -319,7 +365,7 @@ fn twist(draft: &Draft, line: &Words) -> Result<Record, u8>
     let name = name_at(line.word(1))?;
     let node = NodeId(number_named(draft, Space::Node, line.word(2))?);
     let d = direction_of(line)?;
-    let k = stiffness_in(line.word(6))?;
+    let k = number_or_default(line.word(6), STIFFNESS)?;
     let kind = RestraintKind::Twist {
         dx: d.x,
         dy: d.y,
@@ -339,7 +385,7 @@ fn oneway(draft: &Draft, line: &Words) -> Result<Record, u8>
     let node = NodeId(number_named(draft, Space::Node, line.word(2))?);
     let d = direction_of(line)?;
     let gap = number_in(line.word(6), GAP)?;
-    let k = stiffness_in(line.word(7))?;
+    let k = number_or_default(line.word(7), STIFFNESS)?;
     let kind = RestraintKind::Oneway {
         dx: d.x,
         dy: d.y,
@@ -360,7 +406,7 @@ fn gap(draft: &Draft, line: &Words) -> Result<Record, u8>
     let node = NodeId(number_named(draft, Space::Node, line.word(2))?);
     let d = direction_of(line)?;
     let gap = number_in(line.word(6), GAP)?;
-    let k = stiffness_in(line.word(7))?;
+    let k = number_or_default(line.word(7), STIFFNESS)?;
     let kind = RestraintKind::Gap {
         dx: d.x,
         dy: d.y,
@@ -477,4 +523,57 @@ fn movement(draft: &Draft, line: &Words) -> Result<Record, u8>
         y,
         z,
     }))
+}
+
+// check NAME sustained CASE SH
+fn sustained(draft: &Draft, line: &Words) -> Result<Record, u8>
+    ensures value { result ≡ row_of.record_in draft.now Form.Sustained line.now }
+    ensures form { IfOk result InForm }
+{
+    refuse_if(line.count() != 5, 5)?;
+    let name = name_at(line.word(1))?;
+    let case = CaseId(number_named(draft, Space::Case, line.word(3))?);
+    let sh = number_in(line.word(4), ALLOWABLE_STRESS)?;
+    let kind = CheckKind::Sustained { case, sh };
+    Ok(Record::Check(Check { name, kind }))
+}
+
+// check NAME occasional CASE SH PERCENT
+fn occasional(draft: &Draft, line: &Words) -> Result<Record, u8>
+    ensures value { result ≡ row_of.record_in draft.now Form.Occasional line.now }
+    ensures form { IfOk result InForm }
+{
+    refuse_if(line.count() != 6, 5)?;
+    let name = name_at(line.word(1))?;
+    let case = CaseId(number_named(draft, Space::Case, line.word(3))?);
+    let sh = number_in(line.word(4), ALLOWABLE_STRESS)?;
+    let percent = number_or_default(line.word(5), OCCASIONAL_PERCENT)?;
+    let kind = CheckKind::Occasional { case, sh, percent };
+    Ok(Record::Check(Check { name, kind }))
+}
+
+// check NAME expansion CASE1 CASE2 SC SH CYCLES FM SUS
+fn expansion(draft: &Draft, line: &Words) -> Result<Record, u8>
+    ensures value { result ≡ row_of.record_in draft.now Form.Expansion line.now }
+    ensures form { IfOk result InForm }
+{
+    refuse_if(line.count() != 10, 5)?;
+    let name = name_at(line.word(1))?;
+    let case1 = CaseId(number_named(draft, Space::Case, line.word(3))?);
+    let case2 = CaseId(number_named(draft, Space::Case, line.word(4))?);
+    let sc = number_in(line.word(5), ALLOWABLE_STRESS)?;
+    let sh = number_in(line.word(6), ALLOWABLE_STRESS)?;
+    let cycles = number_in(line.word(7), CYCLES)?;
+    let fm = number_in(line.word(8), CYCLE_FACTOR)?;
+    let sus = check_named(draft, line.word(9))?;
+    let kind = CheckKind::Expansion {
+        case1,
+        case2,
+        sc,
+        sh,
+        cycles,
+        fm,
+        sus,
+    };
+    Ok(Record::Check(Check { name, kind }))
 }

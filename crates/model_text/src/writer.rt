@@ -13,9 +13,9 @@ ghost use Rattle.text_words.specs.Fields.{line};
 use crate::reader::LONGEST_TEXT;
 use itoa::Buffer;
 use model_types::{
-    Case, CaseId, Element, ElementId, Force, Material, MaterialId, Model, Move, NoMemory, Node,
-    NodeId, Pressure, Restraint, RestraintId, RestraintKind, Section, SectionId, Shape, Tee,
-    TeeKind, Temp, records_follow, tees_are_judged,
+    Case, CaseId, Check, CheckId, CheckKind, Element, ElementId, Force, Material, MaterialId,
+    Model, Move, NoMemory, Node, NodeId, Pressure, Restraint, RestraintId, RestraintKind, Section,
+    SectionId, Shape, Tee, TeeKind, Temp, records_follow, tees_are_judged,
 };
 use std::alloc::Global;
 use text_words::push_line;
@@ -62,6 +62,7 @@ fn all_lines(alloc: Global, model: &Model) -> Result<Vec<u8>, NoMemory>
     put_all(&mut out, model, model.pressures())?;
     put_all(&mut out, model, model.forces())?;
     put_all(&mut out, model, model.moves())?;
+    put_all(&mut out, model, model.checks())?;
     Ok(out)
 }
 
@@ -231,11 +232,11 @@ fn put_anchor(
     kt: Option<i64>,
     kr: Option<i64>,
 ) -> Result<(), NoMemory>
-    ensures { OnOk result (out.new.items ≡ out.old.items ++ line (codes "anchor" ∷ name.now ∷ node.now ∷ row_of.stiffness_word kt ∷ row_of.stiffness_word kr ∷ [])) }
+    ensures { OnOk result (out.new.items ≡ out.old.items ++ line (codes "anchor" ∷ name.now ∷ node.now ∷ row_of.number_word kt ∷ row_of.number_word kr ∷ [])) }
 {
     let (mut first, mut second) = (Buffer::new(), Buffer::new());
-    let kt = stiffness(&mut first, kt);
-    let kr = stiffness(&mut second, kr);
+    let kt = or_default(&mut first, kt);
+    let kr = or_default(&mut second, kr);
     push_line(out, &[b"anchor", name, node, kt, kr])
 }
 
@@ -250,14 +251,14 @@ fn put_along<'a>(
     dz: i64,
     k: Option<i64>,
 ) -> Result<(), NoMemory>
-    ensures { OnOk result (out.new.items ≡ out.old.items ++ line (kind.now ∷ name.now ∷ node.now ∷ signed_decimal dx ∷ signed_decimal dy ∷ signed_decimal dz ∷ row_of.stiffness_word k ∷ [])) }
+    ensures { OnOk result (out.new.items ≡ out.old.items ++ line (kind.now ∷ name.now ∷ node.now ∷ signed_decimal dx ∷ signed_decimal dy ∷ signed_decimal dz ∷ row_of.number_word k ∷ [])) }
 {
     let (mut x, mut y) = (Buffer::new(), Buffer::new());
     let (mut z, mut last) = (Buffer::new(), Buffer::new());
     let dx = x.format(dx).as_bytes();
     let dy = y.format(dy).as_bytes();
     let dz = z.format(dz).as_bytes();
-    let k = stiffness(&mut last, k);
+    let k = or_default(&mut last, k);
     push_line(out, &[kind, name, node, dx, dy, dz, k])
 }
 
@@ -273,7 +274,7 @@ fn put_stop<'a>(
     gap: i64,
     k: Option<i64>,
 ) -> Result<(), NoMemory>
-    ensures { OnOk result (out.new.items ≡ out.old.items ++ line (kind.now ∷ name.now ∷ node.now ∷ signed_decimal dx ∷ signed_decimal dy ∷ signed_decimal dz ∷ signed_decimal gap ∷ row_of.stiffness_word k ∷ [])) }
+    ensures { OnOk result (out.new.items ≡ out.old.items ++ line (kind.now ∷ name.now ∷ node.now ∷ signed_decimal dx ∷ signed_decimal dy ∷ signed_decimal dz ∷ signed_decimal gap ∷ row_of.number_word k ∷ [])) }
 {
     let (mut x, mut y) = (Buffer::new(), Buffer::new());
     let (mut z, mut between) = (Buffer::new(), Buffer::new());
@@ -282,7 +283,7 @@ fn put_stop<'a>(
     let dy = y.format(dy).as_bytes();
     let dz = z.format(dz).as_bytes();
     let gap = between.format(gap).as_bytes();
-    let k = stiffness(&mut last, k);
+    let k = or_default(&mut last, k);
     push_line(out, &[kind, name, node, dx, dy, dz, gap, k])
 }
 
@@ -301,12 +302,12 @@ fn put_hanger(
     push_line(out, &[b"hanger", name, node, rate, load])
 }
 
-// A stiffness, or `-` for the default.
-fn stiffness(buffer: &mut Buffer, k: Option<i64>) -> &[u8]
-    ensures { result.now ≡ row_of.stiffness_word k }
+// A number, or `-` for the default.
+fn or_default(buffer: &mut Buffer, n: Option<i64>) -> &[u8]
+    ensures { result.now ≡ row_of.number_word n }
 {
-    match k {
-        Some(k) => buffer.format(k).as_bytes(),
+    match n {
+        Some(n) => buffer.format(n).as_bytes(),
         None => b"-",
     }
 }
@@ -406,6 +407,100 @@ impl Lined for Move {
     }
 }
 
+impl Lined for Check {
+    ghost as_record = { record_of.Check };
+
+    fn put(&self, out: &mut Vec<u8>, model: &Model) -> Result<(), NoMemory> {
+        let name = self.name.bytes();
+        match self.kind {
+            CheckKind::Sustained { case, sh } => {
+                let mut buffer = Buffer::new();
+                let case = case_name(model, case);
+                let sh = buffer.format(sh).as_bytes();
+                push_line(out, &[b"check", name, b"sustained", case, sh])
+            }
+            CheckKind::Occasional { case, sh, percent } => {
+                put_occasional(out, name, case_name(model, case), sh, percent)
+            }
+            CheckKind::Expansion {
+                case1,
+                case2,
+                sc,
+                sh,
+                cycles,
+                fm,
+                sus,
+            } => {
+                let (first, second) = (case_name(model, case1), case_name(model, case2));
+                let sus = check_word(model, sus);
+                put_expansion(out, name, first, second, sc, sh, cycles, fm, sus)
+            }
+        }
+    }
+}
+
+fn put_occasional(
+    out: &mut Vec<u8>,
+    name: &[u8],
+    case: &[u8],
+    sh: i64,
+    percent: Option<i64>,
+) -> Result<(), NoMemory>
+    ensures { OnOk result (out.new.items ≡ out.old.items ++ line (codes "check" ∷ name.now ∷ codes "occasional" ∷ case.now ∷ signed_decimal sh ∷ row_of.number_word percent ∷ [])) }
+{
+    let (mut first, mut second) = (Buffer::new(), Buffer::new());
+    let sh = first.format(sh).as_bytes();
+    let percent = or_default(&mut second, percent);
+    push_line(out, &[b"check", name, b"occasional", case, sh, percent])
+}
+
+// An expansion check between two cases.
+fn put_expansion<'a>(
+    out: &mut Vec<u8>,
+    name: &'a [u8],
+    case1: &'a [u8],
+    case2: &'a [u8],
+    sc: i64,
+    sh: i64,
+    cycles: i64,
+    fm: i64,
+    sus: &'a [u8],
+) -> Result<(), NoMemory>
+    ensures { OnOk result (out.new.items ≡ out.old.items ++ line (codes "check" ∷ name.now ∷ codes "expansion" ∷ case1.now ∷ case2.now ∷ signed_decimal sc ∷ signed_decimal sh ∷ signed_decimal cycles ∷ signed_decimal fm ∷ sus.now ∷ [])) }
+{
+    let (mut cold, mut hot) = (Buffer::new(), Buffer::new());
+    let (mut count, mut factor) = (Buffer::new(), Buffer::new());
+    let sc = cold.format(sc).as_bytes();
+    let sh = hot.format(sh).as_bytes();
+    let cycles = count.format(cycles).as_bytes();
+    let fm = factor.format(fm).as_bytes();
+    push_line(
+        out,
+        &[
+            b"check",
+            name,
+            b"expansion",
+            case1,
+            case2,
+            sc,
+            sh,
+            cycles,
+            fm,
+            sus,
+        ],
+    )
+}
+
+// The name of a check, or `-` where none is named.
+fn check_word(model: &Model, named: Option<CheckId>) -> &[u8]
+    ensures { result.now ≡ row_of.check_word model.now named }
+{
+    match named {
+        Some(check) => check_name(model, check),
+        None => b"-",
+    }
+}
+
 // The name of a material, or nothing where there is none of that number.
 fn material_name(model: &Model, material: MaterialId) -> &[u8]
     ensures { result.now ≡ row_of.name_of model.now space_of.Material material.0 }
@@ -461,6 +556,16 @@ fn case_name(model: &Model, case: CaseId) -> &[u8]
     ensures { result.now ≡ row_of.name_of model.now space_of.Case case.0 }
 {
     match model.cases().get(case.0 as usize) {
+        Some(r) => r.name.bytes(),
+        None => b"",
+    }
+}
+
+// The name of a check, or nothing where there is none of that number.
+fn check_name(model: &Model, check: CheckId) -> &[u8]
+    ensures { result.now ≡ row_of.name_of model.now space_of.Check check.0 }
+{
+    match model.checks().get(check.0 as usize) {
         Some(r) => r.name.bytes(),
         None => b"",
     }

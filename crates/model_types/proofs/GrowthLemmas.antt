@@ -10,11 +10,14 @@ use Rattle.model_types.specs.declared.ranges.TheConstants.{MOST_STOPS}
 use Rattle.model_types.specs.declared.records.Section.{Section}
 use Rattle.model_types.specs.declared.records.Node.{Node}
 use Rattle.model_types.specs.declared.records.Restraint.{Restraint}
+use Rattle.model_types.specs.declared.records.Check.{Check}
+use Rattle.model_types.specs.declared.records.CheckKind.{CheckKind}
+use Rattle.model_types.specs.declared.records.CheckKind.TheVariants as check
 use Rattle.model_types.specs.declared.records.Record.{Record}
 use Rattle.model_types.specs.declared.records.Record.TheVariants as record_of
-use Rattle.model_types.specs.Kinds.{Kind, material_kind, section_kind, node_kind, element_kind, tee_kind, restraint_kind, case_kind, temp_kind, pressure_kind, force_kind, move_kind, place, Of, list, as_record, kind_of, value_of, count, most, is_keyed, key, keys, Ref, refs, AreThere, has_stop, stop_count, cut, before, Extends}
+use Rattle.model_types.specs.Kinds.{Kind, material_kind, section_kind, node_kind, element_kind, tee_kind, restraint_kind, case_kind, temp_kind, pressure_kind, force_kind, move_kind, check_kind, place, Of, list, as_record, kind_of, value_of, count, most, is_keyed, key, keys, Ref, refs, check_refs, AreThere, has_stop, stop_count, cut, before, Extends}
 use Rattle.model_types.specs.Lists.{Lists, no_records, added}
-use Rattle.model_types.specs.Rules.{KeepsOwn, Keeps, KeepsRules, MayBeNext, IsModel}
+use Rattle.model_types.specs.Rules.{NamesSustained, NamesEarlier, KeepsOwn, Keeps, KeepsRules, MayBeNext, IsModel}
 use Rattle.model_types.specs.Ranges.{NodeInForm}
 use Rattle.model_types.specs.Tees.{IsTee}
 use Rattle.model_types.proofs.KindLemmas.{of_kind, of_record, added_elim, slice_get-append_below, slice_get-push, slice_get-last, slice_get-take, stop_count-before, length-slices, cut-within, cut-more, cut-own}
@@ -46,6 +49,18 @@ module _ (m n : Lists) (more : Extends m n) where
       let same = more restraint_kind i (get_or m.restraints i x) here in
       cc
 
+  check-Extends : (i : ℕ) (x : Check) → i < length m.checks → slice_get n.checks i ≡ Some x → slice_get m.checks i ≡ Some x
+  check-Extends i x inside there =
+      let here = slice_get-get_or m.checks i x inside in
+      let same = more check_kind i (get_or m.checks i x) here in
+      cc
+
+  sustained-Extends : (kind : CheckKind) → AreThere m (check_refs kind) → NamesSustained m kind → NamesSustained n kind
+  sustained-Extends (check.Sustained case sh) known own = tt
+  sustained-Extends (check.Occasional case sh percent) known own = tt
+  sustained-Extends (check.Expansion case1 case2 sc sh cycles fm None) known own = tt
+  sustained-Extends (check.Expansion case1 case2 sc sh cycles fm (Some sus)) known own = λ x there. own x (check-Extends sus.0 x known.1.1.0 there)
+
   own-Extends : (r : Record) → AreThere m (refs r) → KeepsOwn m r → KeepsOwn n r
   own-Extends (record_of.Material r) known own = own
   own-Extends (record_of.Section r) known own = own
@@ -61,6 +76,7 @@ module _ (m n : Lists) (more : Extends m n) where
   own-Extends (record_of.Pressure r) known own = own
   own-Extends (record_of.Force r) known own = own
   own-Extends (record_of.Move r) known own = λ x there. own x (restraint-Extends r.anchor.0 x known.1.0 there)
+  own-Extends (record_of.Check r) known own = sustained-Extends r.kind known own
 
   -- a record keeps its rule among more records
   pub Keeps-Extends : (r : Record) → Keeps m r → Keeps n r
@@ -85,6 +101,13 @@ pub all_keep : (m : Lists) → KeepsRules m → (k : Kind) → All (λ x. Keeps 
 all_keep m rules k i d inside =
     Keeps-Extends (before m k i) m (before-all m k i) (as_record k (get_or (list m k) i d)) (rules.records k i (get_or (list m k) i d) (slice_get-get_or (list m k) i d inside))
 
+-- and a check names an earlier one
+earlier_named : (m : Lists) (i : ℕ) (kind : CheckKind) → AreThere (before m check_kind i) (check_refs kind) → NamesEarlier i kind
+earlier_named m i (check.Sustained case sh) known = tt
+earlier_named m i (check.Occasional case sh percent) known = tt
+earlier_named m i (check.Expansion case1 case2 sc sh cycles fm None) known = tt
+earlier_named m i (check.Expansion case1 case2 sc sh cycles fm (Some sus)) known = omega (arith, known.1.1.0, length-take i m.checks)
+
 -- no record keeps the rules
 pub no_records_keep : KeepsRules no_records
 no_records_keep = record {
@@ -92,12 +115,11 @@ no_records_keep = record {
   distinct = λ k keyed. subst (AllPairs (λ a b. a ≢ b)) (sym ((of_kind k).keyed no_records ∙ ap (map (λ x. key (as_record k x))) (of_kind k).none)) (λ i j d before inside. absurd (omega arith));
   limits = λ k. omega (arith, (of_kind k).counted no_records, ap length (of_kind k).none);
   stops = omega arith;
-  no_check = refl;
 }
 
 -- rules that are kept, a node, and tees that are made, make a model
 pub IsModel-from : (m : Lists) → KeepsRules m → m.nodes ≢ [] → All (IsTee m) m.tees → IsModel m
-IsModel-from m rules some tees = record { rules = rules; some_node = not_empty m.nodes some; tees_made = tees; kept = record { materials = all_keep m rules material_kind; sections = all_keep m rules section_kind; nodes = all_keep m rules node_kind; elements = all_keep m rules element_kind; tees = all_keep m rules tee_kind; restraints = all_keep m rules restraint_kind; cases = all_keep m rules case_kind; temps = all_keep m rules temp_kind; pressures = all_keep m rules pressure_kind; forces = all_keep m rules force_kind; moves = all_keep m rules move_kind }; few = record { materials = rules.limits material_kind; sections = rules.limits section_kind; nodes = rules.limits node_kind; elements = rules.limits element_kind; tees = rules.limits tee_kind; restraints = rules.limits restraint_kind; cases = rules.limits case_kind; temps = rules.limits temp_kind; pressures = rules.limits pressure_kind; forces = rules.limits force_kind; moves = rules.limits move_kind } }
+IsModel-from m rules some tees = record { rules = rules; some_node = not_empty m.nodes some; tees_made = tees; kept = record { materials = all_keep m rules material_kind; sections = all_keep m rules section_kind; nodes = all_keep m rules node_kind; elements = all_keep m rules element_kind; tees = all_keep m rules tee_kind; restraints = all_keep m rules restraint_kind; cases = all_keep m rules case_kind; temps = all_keep m rules temp_kind; pressures = all_keep m rules pressure_kind; forces = all_keep m rules force_kind; moves = all_keep m rules move_kind; checks = all_keep m rules check_kind; in_order = λ i x at. earlier_named m i x.kind (rules.records check_kind i x at).known }; few = record { materials = rules.limits material_kind; sections = rules.limits section_kind; nodes = rules.limits node_kind; elements = rules.limits element_kind; tees = rules.limits tee_kind; restraints = rules.limits restraint_kind; cases = rules.limits case_kind; temps = rules.limits temp_kind; pressures = rules.limits pressure_kind; forces = rules.limits force_kind; moves = rules.limits move_kind; checks = rules.limits check_kind } }
 
 pub nodes_in_form : (m : Lists) → KeepsRules m → All NodeInForm m.nodes
 nodes_in_form m rules = λ i d inside. (all_keep m rules node_kind i d inside).form
@@ -163,7 +185,6 @@ module _ (m : Lists) (r : Record) where
       limits = λ j. subst (λ n. n ≤ most j) (sym ((of_kind j).counted (added m r)))
           (added_elim m r (λ j ys. length ys ≤ most j) (omega (arith, length-append of_its_kind (value_of r ∷ []), (of_kind (kind_of r)).counted m, next.room)) (λ j. omega (arith, (of_kind j).counted m, rules.limits j)) j);
       stops = stops_fit (has_stop r) refl;
-      no_check = (of_record r).checks_are m ∙ rules.no_check;
     }
 
   -- and the other way: the last record might be the next of those before it

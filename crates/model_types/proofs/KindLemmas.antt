@@ -1,16 +1,18 @@
 -- Lemmas on kinds, and on a list cut at a place.
-use Rattle.std.proofs.Common.{◌≡◌, ℕ, zero, suc, ◌+◌, ◌<◌, ◌≤◌, ◌==◌, nat_lt, Bool, true, false, List, [], ◌∷◌, ◌++◌, ◌⊎◌, inl, inr, map, take, length, get_or, slice_get, Some, cond, if◌then◌else◌, refl, ap, ◌∙◌, arith}
+use Rattle.std.proofs.Common.{◌≡◌, ℕ, zero, suc, ◌+◌, ◌<◌, ◌≤◌, ◌==◌, nat_lt, Bool, true, false, List, [], ◌∷◌, ◌++◌, ◌⊎◌, inl, inr, map, take, length, get_or, slice_get, Some, cond, if◌then◌else◌, refl, sym, ap, subst, ◌∙◌, arith}
+use Rattle.std.proofs.Math.Seq.{take-append_seam}
 use Rattle.std.proofs.lemmas.Bool.{cond-true, cond-false}
 use Rattle.std.proofs.lemmas.Bool.Decides.{nat_tests}
 use Rattle.std.proofs.lemmas.List.Sums.{length-filter, sum_by-append, sum_by-cons, sum_by_more_le}
 use Rattle.std.proofs.lemmas.Option.{slice_get-get_or, slice_get_within, get_or_from_slice_get}
 use Rattle.std.specs.List.{count_by}
 use Rattle.model_types.specs.declared.records.Restraint.{Restraint}
+use Rattle.model_types.specs.declared.records.Check.{Check}
 use Rattle.model_types.specs.declared.records.Record.{Record}
 use Rattle.model_types.specs.declared.records.Record.TheVariants as record_of
-use Rattle.model_types.specs.Kinds.{Kind, material_kind, section_kind, node_kind, element_kind, tee_kind, restraint_kind, case_kind, temp_kind, pressure_kind, force_kind, move_kind, place, Of, list, as_record, kind_of, value_of, count, key, keys, refs, AreThere, is_stop, has_stop, stop_count, cut, before}
+use Rattle.model_types.specs.Kinds.{Kind, material_kind, section_kind, node_kind, element_kind, tee_kind, restraint_kind, case_kind, temp_kind, pressure_kind, force_kind, move_kind, check_kind, place, Of, list, as_record, kind_of, value_of, count, key, keys, refs, check_refs, AreThere, is_stop, has_stop, stop_count, cut, before}
 use Rattle.model_types.specs.Lists.{Lists, no_records, added}
-use Rattle.model_types.specs.Rules.{KeepsOwn}
+use Rattle.model_types.specs.Rules.{KeepsOwn, NamesSustained}
 
 -- what a kind's definitions say of each other
 pub record OfKind (k : Kind) : Type 0 where
@@ -32,6 +34,7 @@ of_kind temp_kind = record { counted = λ m. refl; keyed = λ m. refl; cut_is = 
 of_kind pressure_kind = record { counted = λ m. refl; keyed = λ m. refl; cut_is = λ m j i. refl; kind_is = λ x. refl; none = refl }
 of_kind force_kind = record { counted = λ m. refl; keyed = λ m. refl; cut_is = λ m j i. refl; kind_is = λ x. refl; none = refl }
 of_kind move_kind = record { counted = λ m. refl; keyed = λ m. refl; cut_is = λ m j i. refl; kind_is = λ x. refl; none = refl }
+of_kind check_kind = record { counted = λ m. refl; keyed = λ m. refl; cut_is = λ m j i. refl; kind_is = λ x. refl; none = refl }
 
 -- how many stops a record is
 abbrev pub stop_count_of : Record → ℕ
@@ -53,24 +56,34 @@ stop_count-before xs i r at stop =
 -- and what they say of a record: it is added at the end of its kind, and what its rule speaks of stands before it
 pub record OfRecord (r : Record) : Type 0 where
   pub added_is : (m : Lists) → list (added m r) (kind_of r) ≡ list m (kind_of r) ++ value_of r ∷ []
-  pub checks_are : (m : Lists) → (added m r).checks ≡ m.checks
   pub stops_are : (m : Lists) → stop_count (added m r).restraints ≡ stop_count m.restraints + stop_count_of r
   pub record_is : as_record (kind_of r) (value_of r) ≡ r
   pub known : (m : Lists) → AreThere m (refs r) → AreThere (before (added m r) (kind_of r) (length (list m (kind_of r)))) (refs r)
   pub own : (m : Lists) → KeepsOwn m r → KeepsOwn (before (added m r) (kind_of r) (length (list m (kind_of r)))) r
 
+-- all others stand before a check that is added: checks are the last kind
+before_a_check : (m : Lists) (r : Check) → before (added m (record_of.Check r)) check_kind (length m.checks) ≡ m
+before_a_check m r = ap (λ checks. record m { checks = checks }) (take-append_seam m.checks (r ∷ []))
+
 pub of_record : (r : Record) → OfRecord r
-of_record (record_of.Material r) = record { added_is = λ m. refl; checks_are = λ m. refl; stops_are = λ m. omega arith; record_is = refl; known = λ m k. k; own = λ m k. k }
-of_record (record_of.Section r) = record { added_is = λ m. refl; checks_are = λ m. refl; stops_are = λ m. omega arith; record_is = refl; known = λ m k. k; own = λ m k. k }
-of_record (record_of.Node r) = record { added_is = λ m. refl; checks_are = λ m. refl; stops_are = λ m. omega arith; record_is = refl; known = λ m k. k; own = λ m k. k }
-of_record (record_of.Element r) = record { added_is = λ m. refl; checks_are = λ m. refl; stops_are = λ m. omega arith; record_is = refl; known = λ m k. k; own = λ m k. record { span = k.span; shape = k.shape } }
-of_record (record_of.Tee r) = record { added_is = λ m. refl; checks_are = λ m. refl; stops_are = λ m. omega arith; record_is = refl; known = λ m k. k; own = λ m k. k }
-of_record (record_of.Restraint r) = record { added_is = λ m. refl; checks_are = λ m. refl; stops_are = λ m. stop_count-push m.restraints r; record_is = refl; known = λ m k. k; own = λ m k. k }
-of_record (record_of.Case r) = record { added_is = λ m. refl; checks_are = λ m. refl; stops_are = λ m. omega arith; record_is = refl; known = λ m k. k; own = λ m k. k }
-of_record (record_of.Temp r) = record { added_is = λ m. refl; checks_are = λ m. refl; stops_are = λ m. omega arith; record_is = refl; known = λ m k. k; own = λ m k. k }
-of_record (record_of.Pressure r) = record { added_is = λ m. refl; checks_are = λ m. refl; stops_are = λ m. omega arith; record_is = refl; known = λ m k. k; own = λ m k. k }
-of_record (record_of.Force r) = record { added_is = λ m. refl; checks_are = λ m. refl; stops_are = λ m. omega arith; record_is = refl; known = λ m k. k; own = λ m k. k }
-of_record (record_of.Move r) = record { added_is = λ m. refl; checks_are = λ m. refl; stops_are = λ m. omega arith; record_is = refl; known = λ m k. k; own = λ m k. k }
+of_record (record_of.Material r) = record { added_is = λ m. refl; stops_are = λ m. omega arith; record_is = refl; known = λ m k. k; own = λ m k. k }
+of_record (record_of.Section r) = record { added_is = λ m. refl; stops_are = λ m. omega arith; record_is = refl; known = λ m k. k; own = λ m k. k }
+of_record (record_of.Node r) = record { added_is = λ m. refl; stops_are = λ m. omega arith; record_is = refl; known = λ m k. k; own = λ m k. k }
+of_record (record_of.Element r) = record { added_is = λ m. refl; stops_are = λ m. omega arith; record_is = refl; known = λ m k. k; own = λ m k. record { span = k.span; shape = k.shape } }
+of_record (record_of.Tee r) = record { added_is = λ m. refl; stops_are = λ m. omega arith; record_is = refl; known = λ m k. k; own = λ m k. k }
+of_record (record_of.Restraint r) = record { added_is = λ m. refl; stops_are = λ m. stop_count-push m.restraints r; record_is = refl; known = λ m k. k; own = λ m k. k }
+of_record (record_of.Case r) = record { added_is = λ m. refl; stops_are = λ m. omega arith; record_is = refl; known = λ m k. k; own = λ m k. k }
+of_record (record_of.Temp r) = record { added_is = λ m. refl; stops_are = λ m. omega arith; record_is = refl; known = λ m k. k; own = λ m k. k }
+of_record (record_of.Pressure r) = record { added_is = λ m. refl; stops_are = λ m. omega arith; record_is = refl; known = λ m k. k; own = λ m k. k }
+of_record (record_of.Force r) = record { added_is = λ m. refl; stops_are = λ m. omega arith; record_is = refl; known = λ m k. k; own = λ m k. k }
+of_record (record_of.Move r) = record { added_is = λ m. refl; stops_are = λ m. omega arith; record_is = refl; known = λ m k. k; own = λ m k. k }
+of_record (record_of.Check r) = record {
+  added_is = λ m. refl;
+  stops_are = λ m. omega arith;
+  record_is = refl;
+  known = λ m k. subst (λ p. AreThere p (check_refs r.kind)) (sym (before_a_check m r)) k;
+  own = λ m k. subst (λ p. NamesSustained p r.kind) (sym (before_a_check m r)) k;
+}
 
 -- what holds of the list with the record, and of the others as they were, holds of all
 pub added_elim : (m : Lists) (r : Record) (P : (j : Kind) → List (Of j) → Type 0) → P (kind_of r) (list m (kind_of r) ++ value_of r ∷ []) → ((j : Kind) → P j (list m j)) → (j : Kind) → P j (list (added m r) j)
@@ -96,6 +109,8 @@ added_elim m (record_of.Force r) P new old force_kind = new
 added_elim m (record_of.Force r) P new old j = old j
 added_elim m (record_of.Move r) P new old move_kind = new
 added_elim m (record_of.Move r) P new old j = old j
+added_elim m (record_of.Check r) P new old check_kind = new
+added_elim m (record_of.Check r) P new old j = old j
 
 module _ {X : Type 0} where
   -- what a list has below its length it has with more

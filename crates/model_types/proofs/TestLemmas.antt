@@ -1,5 +1,5 @@
 -- No number refuses a record exactly where it may be the next.
-use Rattle.std.proofs.Common.{◌≡◌, ℕ, ◌*◌, ◌<◌, ◌==◌, Bool, true, false, true≢false, not, ◌||◌, ◌&&◌, nat_lt, nat_le, int_le, int_lt, int_eq, ℤ, pos, ◌*ℤ◌, ◌<ℤ◌, ◌≤ℤ◌, Result, Ok, Err, IsTrue, List, [], ◌∷◌, ◌++◌, Option, Some, None, is_some, position, slice_get, Contains, nat_eq, ◌↔◌, if◌then◌else◌, refl, sym, ap, ◌∙◌, arith}
+use Rattle.std.proofs.Common.{◌≡◌, ℕ, ◌*◌, ◌<◌, ◌==◌, Bool, true, false, true≢false, not, ◌||◌, ◌&&◌, nat_lt, nat_le, int_le, int_lt, int_eq, ℤ, pos, ◌*ℤ◌, ◌<ℤ◌, ◌≤ℤ◌, Result, Ok, Err, IsTrue, List, [], ◌∷◌, ◌++◌, Option, Some, None, IfSome, is_some, position, slice_get, Contains, nat_eq, ◌↔◌, if◌then◌else◌, refl, sym, ap, ◌∙◌, arith}
 use Rattle.std.proofs.lemmas.Bool.{and_parts, and_from, false_from_ne_true, le-ltb, lt-leb, leb-false, ltb-false}
 use Rattle.std.proofs.lemmas.Bool.Decides.{nat_tests, Decides-int_eq}
 use Rattle.std.proofs.lemmas.Int.{ints}
@@ -11,6 +11,8 @@ use Rattle.flex_interval.specs.declared.fault.IvFault.{IvFault}
 use Rattle.angle_table.specs.HalfAngle.{sine_of}
 use Rattle.model_types.specs.declared.records.Section.{Section}
 use Rattle.model_types.specs.declared.records.Restraint.{Restraint}
+use Rattle.model_types.specs.declared.records.Check.{Check}
+use Rattle.model_types.specs.declared.ids.CheckId.{CheckId}
 use Rattle.model_types.specs.declared.records.Shape.{Shape}
 use Rattle.model_types.specs.declared.records.Shape.TheVariants.{Straight, Bend}
 use Rattle.model_types.specs.declared.spans.Difference.{Difference}
@@ -19,10 +21,10 @@ use Rattle.model_types.specs.declared.records.Node.{Node}
 use Rattle.model_types.specs.declared.records.Element.{Element}
 use Rattle.model_types.specs.declared.records.Record.{Record}
 use Rattle.model_types.specs.declared.records.Record.TheVariants as record_of
-use Rattle.model_types.specs.Kinds.{kind_of, count, most, is_keyed, key, keys, Ref, refs, AreThere, is_anchor, has_stop, stop_count}
+use Rattle.model_types.specs.Kinds.{kind_of, count, most, is_keyed, key, keys, Ref, refs, AreThere, is_anchor, is_sustained, named_check, has_stop, stop_count}
 use Rattle.model_types.specs.Lists.{Lists}
 use Rattle.model_types.specs.Ranges.{InForm}
-use Rattle.model_types.specs.Refusals.{Test, test, first_refusal, AllFail, lacks, has_no_length, is_too_long, is_far, misfits_sine, is_other_restraint, is_bad_shape, is_bad_between, has_bad_shape, is_too_many, square_between, square_length, own_tests, tests, refusal}
+use Rattle.model_types.specs.Refusals.{Test, test, first_refusal, AllFail, lacks, has_no_length, is_too_long, is_far, misfits_sine, is_other_restraint, is_other_check, names_other, is_bad_shape, is_bad_between, has_bad_shape, is_too_many, square_between, square_length, own_tests, tests, refusal}
 use Rattle.model_types.specs.Rules.{KeepsOwn, MayBeNext, IsSpan, IsShapeSpan, square_distance}
 use Rattle.model_types.proofs.NameLists.{position-Contains}
 use Rattle.model_types.proofs.GrowthLemmas.{absent_key}
@@ -179,6 +181,26 @@ anchor_test restraints n anchors = by (slice_get restraints n) refl
     by (Some x) there = ap not (anchors x there)
     by None there = refl
 
+-- ---- the test of a sustained check
+
+sustained_from_test : (checks : List Check) (n : ℕ) (x : Check) → slice_get checks n ≡ Some x → is_other_check checks n ≡ false → IsTrue (is_sustained x.kind)
+sustained_from_test checks n x there fail = not_fails (is_sustained x.kind) (sym (ap (λ o. option_map_or (λ (y : Check). not (is_sustained y.kind)) o false) there) ∙ fail)
+
+sustained_test : (checks : List Check) (n : ℕ) → ((x : Check) → slice_get checks n ≡ Some x → IsTrue (is_sustained x.kind)) → is_other_check checks n ≡ false
+sustained_test checks n sustained = by (slice_get checks n) refl
+  where
+    by : (o : Option Check) → slice_get checks n ≡ o → option_map_or (λ (y : Check). not (is_sustained y.kind)) o false ≡ false
+    by (Some x) there = ap not (sustained x there)
+    by None there = refl
+
+named_from_test : (checks : List Check) (sus : Option CheckId) → names_other checks sus ≡ false → IfSome sus (λ id. (x : Check) → slice_get checks id.0 ≡ Some x → IsTrue (is_sustained x.kind))
+named_from_test checks None fail = tt
+named_from_test checks (Some sus) fail = λ x there. sustained_from_test checks sus.0 x there fail
+
+named_test : (checks : List Check) (sus : Option CheckId) → IfSome sus (λ id. (x : Check) → slice_get checks id.0 ≡ Some x → IsTrue (is_sustained x.kind)) → names_other checks sus ≡ false
+named_test checks None named = refl
+named_test checks (Some sus) named = sustained_test checks sus.0 named
+
 -- the tests of a kind decide its own rule
 own-fail : (m : Lists) (r : Record) → AllFail (own_tests m r) ↔ KeepsOwn m r
 own-fail m (record_of.Material r) = ((λ fail. tt), (λ own. tt))
@@ -209,6 +231,7 @@ own-fail m (record_of.Temp r) = ((λ fail. tt), (λ own. tt))
 own-fail m (record_of.Pressure r) = ((λ fail. tt), (λ own. tt))
 own-fail m (record_of.Force r) = ((λ fail. tt), (λ own. tt))
 own-fail m (record_of.Move r) = ((λ fail x there. anchor_from_test m.restraints r.anchor.0 x there fail.0), (λ own. (anchor_test m.restraints r.anchor.0 own, tt)))
+own-fail m (record_of.Check r) = ((λ fail. named_from_test m.checks (named_check r.kind) fail.0), (λ own. (named_test m.checks (named_check r.kind) own, tt)))
 
 known-fail : (m : Lists) (rs : List Ref) → (lacks m rs ≡ false) ↔ AreThere m rs
 known-fail m [] = ((λ fail. tt), (λ known. refl))

@@ -1,12 +1,24 @@
--- Which answers are those of a model's cases.
+-- Which answers are those of a model's cases and checks.
 use Rattle.std.specs.Prelude.{◌≡◌, ◌*◌, ◌^◌, ◌<◌, List, [], length, All, ℤ, unsigned_abs, ⊤}
+use Rattle.flex_interval.specs.Ends.{Ends, IsInterval}
 use Rattle.model_types.specs.Lists.{Lists}
 use Rattle.model_types.specs.declared.answers.Bounds.{Bounds}
 use Rattle.model_types.specs.declared.answers.Cause.{Cause}
 use Rattle.model_types.specs.declared.answers.Cause.TheVariants as causes
 use Rattle.model_types.specs.declared.answers.CaseAnswer.{CaseAnswer}
 use Rattle.model_types.specs.declared.answers.CaseAnswer.TheVariants.{Certified, Uncertified}
+use Rattle.model_types.specs.declared.answers.CheckAnswer.{CheckAnswer}
+use Rattle.model_types.specs.declared.answers.CheckAnswer.TheVariants.{Stations, Unchecked}
+use Rattle.model_types.specs.declared.answers.StationAnswer.{StationAnswer}
+use Rattle.model_types.specs.declared.answers.StationAnswer.TheVariants.{Judged, Wide}
 use Rattle.model_types.specs.MemberCounts.{restraints_member_count, restraints_state_count}
+
+-- an interval as bounds, and bounds as an interval
+abbrev pub bounds_of : Ends → Bounds
+bounds_of e = record { lo = e.lo; hi = e.hi }
+
+abbrev pub ends_of : Bounds → Ends
+ends_of b = record { lo = b.lo; hi = b.hi }
 
 -- a number of an answer is below 2^90 in size
 abbrev pub IsModest : ℤ → Type 0
@@ -50,3 +62,20 @@ FitsModel m (Uncertified cause guess) = IsCauseIn m cause × IsGuessFor m cause 
 pub record AreAnswersOf (m : Lists) (answers : List CaseAnswer) : Type 0 where
   pub one_each : length answers ≡ length m.cases
   pub fit : All (FitsModel m) answers
+
+-- ---- checks
+
+-- a stress and an allowable each lie in an interval
+abbrev pub IsStationAnswer : StationAnswer → Type 0
+IsStationAnswer (Judged stress allowable) = IsInterval (ends_of stress) × IsInterval (ends_of allowable)
+IsStationAnswer Wide = ⊤
+
+-- the answer is one of a check of the model: an answer for each end of each element; or a case of the model
+abbrev pub IsCheckAnswerIn : Lists → CheckAnswer → Type 0
+IsCheckAnswerIn m (Stations answers) = (length answers ≡ 2 * length m.elements) × All IsStationAnswer answers
+IsCheckAnswerIn m (Unchecked case) = case.0 < length m.cases
+
+-- one answer for each check
+pub record AreChecksOf (m : Lists) (answers : List CheckAnswer) : Type 0 where
+  pub one_each : length answers ≡ length m.checks
+  pub fit : All (IsCheckAnswerIn m) answers

@@ -1,6 +1,6 @@
 -- The kinds of records: the lists of a model by kind, what tells the records of a kind apart, which other records they name, and how
 -- many there may be.
-use Rattle.std.specs.Prelude.{◌≡◌, ℕ, ◌<◌, ◌==◌, nat_lt, Bool, true, false, List, [], ◌∷◌, map, filter, take, length, slice_get, Some, if◌then◌else◌}
+use Rattle.std.specs.Prelude.{◌≡◌, ℕ, ◌<◌, ◌==◌, nat_lt, Bool, true, false, List, [], ◌∷◌, map, filter, take, length, slice_get, Option, Some, None, if◌then◌else◌}
 use Rattle.model_types.specs.declared.records.Material.{Material}
 use Rattle.model_types.specs.declared.records.Section.{Section}
 use Rattle.model_types.specs.declared.records.Node.{Node}
@@ -14,6 +14,10 @@ use Rattle.model_types.specs.declared.records.Temp.{Temp}
 use Rattle.model_types.specs.declared.records.Pressure.{Pressure}
 use Rattle.model_types.specs.declared.records.Force.{Force}
 use Rattle.model_types.specs.declared.records.Move.{Move}
+use Rattle.model_types.specs.declared.records.Check.{Check}
+use Rattle.model_types.specs.declared.records.CheckKind.{CheckKind}
+use Rattle.model_types.specs.declared.records.CheckKind.TheVariants as check
+use Rattle.model_types.specs.declared.ids.CheckId.{CheckId}
 use Rattle.model_types.specs.declared.records.Record.{Record}
 use Rattle.model_types.specs.declared.records.Record.TheVariants as record_of
 use Rattle.model_types.specs.Lists.{Lists, no_records}
@@ -31,9 +35,10 @@ pub data Kind : Type 0 where
   pressure_kind : Kind
   force_kind : Kind
   move_kind : Kind
+  check_kind : Kind
 
 abbrev pub kinds : List Kind
-kinds = material_kind ∷ section_kind ∷ node_kind ∷ element_kind ∷ tee_kind ∷ restraint_kind ∷ case_kind ∷ temp_kind ∷ pressure_kind ∷ force_kind ∷ move_kind ∷ []
+kinds = material_kind ∷ section_kind ∷ node_kind ∷ element_kind ∷ tee_kind ∷ restraint_kind ∷ case_kind ∷ temp_kind ∷ pressure_kind ∷ force_kind ∷ move_kind ∷ check_kind ∷ []
 
 -- the place of a kind in that order
 abbrev pub place : Kind → ℕ
@@ -48,6 +53,7 @@ place temp_kind = 7
 place pressure_kind = 8
 place force_kind = 9
 place move_kind = 10
+place check_kind = 11
 
 -- the records of a kind
 abbrev pub Of : Kind → Type 0
@@ -62,6 +68,7 @@ Of temp_kind = Temp
 Of pressure_kind = Pressure
 Of force_kind = Force
 Of move_kind = Move
+Of check_kind = Check
 
 abbrev pub list : Lists → (k : Kind) → List (Of k)
 list m material_kind = m.materials
@@ -75,6 +82,7 @@ list m temp_kind = m.temps
 list m pressure_kind = m.pressures
 list m force_kind = m.forces
 list m move_kind = m.moves
+list m check_kind = m.checks
 
 abbrev pub as_record : (k : Kind) → Of k → Record
 as_record material_kind r = record_of.Material r
@@ -88,6 +96,7 @@ as_record temp_kind r = record_of.Temp r
 as_record pressure_kind r = record_of.Pressure r
 as_record force_kind r = record_of.Force r
 as_record move_kind r = record_of.Move r
+as_record check_kind r = record_of.Check r
 
 abbrev pub kind_of : Record → Kind
 kind_of (record_of.Material r) = material_kind
@@ -101,6 +110,7 @@ kind_of (record_of.Temp r) = temp_kind
 kind_of (record_of.Pressure r) = pressure_kind
 kind_of (record_of.Force r) = force_kind
 kind_of (record_of.Move r) = move_kind
+kind_of (record_of.Check r) = check_kind
 
 abbrev pub value_of : (r : Record) → Of (kind_of r)
 value_of (record_of.Material r) = r
@@ -114,6 +124,7 @@ value_of (record_of.Temp r) = r
 value_of (record_of.Pressure r) = r
 value_of (record_of.Force r) = r
 value_of (record_of.Move r) = r
+value_of (record_of.Check r) = r
 
 -- how many records of a kind there are, and how many there may be
 abbrev pub count : Lists → Kind → ℕ
@@ -128,6 +139,7 @@ count m temp_kind = length m.temps
 count m pressure_kind = length m.pressures
 count m force_kind = length m.forces
 count m move_kind = length m.moves
+count m check_kind = length m.checks
 
 abbrev pub most : Kind → ℕ
 most material_kind = 64
@@ -141,6 +153,7 @@ most temp_kind = 2048
 most pressure_kind = 2048
 most force_kind = 4000
 most move_kind = 1000
+most check_kind = 32
 
 -- a stop: a one-way support or a gap, also a gap of 0
 abbrev pub is_stop : RestraintKind → Bool
@@ -160,6 +173,18 @@ is_anchor (Oneway dx dy dz gap k) = false
 is_anchor (Gap dx dy dz gap k) = false
 is_anchor (Hanger rate load) = false
 
+-- a sustained check
+abbrev pub is_sustained : CheckKind → Bool
+is_sustained (check.Sustained case sh) = true
+is_sustained (check.Occasional case sh percent) = false
+is_sustained (check.Expansion case1 case2 sc sh cycles fm sus) = false
+
+-- the sustained check that a check names, if it names one
+abbrev pub named_check : CheckKind → Option CheckId
+named_check (check.Sustained case sh) = None
+named_check (check.Occasional case sh percent) = None
+named_check (check.Expansion case1 case2 sc sh cycles fm sus) = sus
+
 abbrev pub has_stop : Record → Bool
 has_stop (record_of.Material r) = false
 has_stop (record_of.Section r) = false
@@ -172,6 +197,7 @@ has_stop (record_of.Temp r) = false
 has_stop (record_of.Pressure r) = false
 has_stop (record_of.Force r) = false
 has_stop (record_of.Move r) = false
+has_stop (record_of.Check r) = false
 
 -- how many restraints are stops
 abbrev pub stop_count : List Restraint → ℕ
@@ -191,6 +217,7 @@ is_keyed temp_kind = true
 is_keyed pressure_kind = true
 is_keyed force_kind = false
 is_keyed move_kind = true
+is_keyed check_kind = true
 
 abbrev pub key : Record → List ℕ
 key (record_of.Material r) = r.name
@@ -204,6 +231,7 @@ key (record_of.Temp r) = r.case.0 ∷ r.section.0 ∷ []
 key (record_of.Pressure r) = r.case.0 ∷ r.section.0 ∷ []
 key (record_of.Force r) = r.case.0 ∷ r.node.0 ∷ []
 key (record_of.Move r) = r.case.0 ∷ r.anchor.0 ∷ []
+key (record_of.Check r) = r.name
 
 abbrev pub keys : Lists → Kind → List (List ℕ)
 keys m material_kind = map (λ r. r.name) m.materials
@@ -217,6 +245,7 @@ keys m temp_kind = map (λ r. r.case.0 ∷ r.section.0 ∷ []) m.temps
 keys m pressure_kind = map (λ r. r.case.0 ∷ r.section.0 ∷ []) m.pressures
 keys m force_kind = map (λ r. r.case.0 ∷ r.node.0 ∷ []) m.forces
 keys m move_kind = map (λ r. r.case.0 ∷ r.anchor.0 ∷ []) m.moves
+keys m check_kind = map (λ r. r.name) m.checks
 
 -- a record that another names: its kind and its number
 pub record Ref : Type 0 where
@@ -225,6 +254,17 @@ pub record Ref : Type 0 where
 
 abbrev pub to : Kind → ℕ → Ref
 to kind number = record { kind = kind; number = number }
+
+-- the sustained check that is named, if one is
+abbrev pub named_refs : Option CheckId → List Ref
+named_refs None = []
+named_refs (Some sus) = to check_kind sus.0 ∷ []
+
+-- the cases of a check, and the sustained check that it names
+abbrev pub check_refs : CheckKind → List Ref
+check_refs (check.Sustained case sh) = to case_kind case.0 ∷ []
+check_refs (check.Occasional case sh percent) = to case_kind case.0 ∷ []
+check_refs (check.Expansion case1 case2 sc sh cycles fm sus) = to case_kind case1.0 ∷ to case_kind case2.0 ∷ named_refs sus
 
 -- the records that a record names
 abbrev pub refs : Record → List Ref
@@ -239,6 +279,7 @@ refs (record_of.Temp r) = to case_kind r.case.0 ∷ to section_kind r.section.0 
 refs (record_of.Pressure r) = to case_kind r.case.0 ∷ to section_kind r.section.0 ∷ []
 refs (record_of.Force r) = to case_kind r.case.0 ∷ to node_kind r.node.0 ∷ []
 refs (record_of.Move r) = to case_kind r.case.0 ∷ to restraint_kind r.anchor.0 ∷ []
+refs (record_of.Check r) = check_refs r.kind
 
 -- they are there
 abbrev pub AreThere : Lists → List Ref → Type 0
@@ -264,6 +305,7 @@ before_place m now i = record no_records {
   pressures = cut 8 now i m.pressures;
   forces = cut 9 now i m.forces;
   moves = cut 10 now i m.moves;
+  checks = cut 11 now i m.checks;
 }
 
 -- the records before number i of a kind

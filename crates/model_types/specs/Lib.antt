@@ -4,6 +4,7 @@ pub mod Kinds
 pub mod Lists
 pub mod MemberCounts
 pub mod Numbering
+pub mod Places
 pub mod Ranges
 pub mod Refusals
 pub mod Rules

@@ -50,6 +50,7 @@ added m (record_of.Temp r) = record m { temps = m.temps ++ r ∷ [] }
 added m (record_of.Pressure r) = record m { pressures = m.pressures ++ r ∷ [] }
 added m (record_of.Force r) = record m { forces = m.forces ++ r ∷ [] }
 added m (record_of.Move r) = record m { moves = m.moves ++ r ∷ [] }
+added m (record_of.Check r) = record m { checks = m.checks ++ r ∷ [] }
 
 -- the names of a space, in text order
 abbrev pub names_in : Lists → Space → List (List ℕ)

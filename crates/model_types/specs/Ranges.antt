@@ -2,7 +2,7 @@
 use Rattle.std.specs.Prelude.{◌≡◌, ℕ, ℤ, pos, neg_ℤ, ◌≤ℤ◌, IsTrue, Option, IfSome}
 use Rattle.angle_table.specs.HalfAngle.{is_bend_angle}
 use Rattle.model_types.specs.declared.ranges.Range.{Range}
-use Rattle.model_types.specs.declared.ranges.TheConstants.{ACCELERATION, BEND_RADIUS, COORDINATE, CORNER, DENSITY, DIAMETER, DIRECTION_PART, EXPANSION, EXTRA_WEIGHT, GAP, HANGER_LOAD, LOAD, MODULUS, MOVEMENT, PAD_THICKNESS, POISSON_RATIO, PRESSURE, STIFFNESS, TEE_COEFFICIENT, TEMPERATURE_CHANGE, WALL, WALL_ALLOWANCE}
+use Rattle.model_types.specs.declared.ranges.TheConstants.{ACCELERATION, ALLOWABLE_STRESS, BEND_RADIUS, COORDINATE, CORNER, CYCLES, CYCLE_FACTOR, DENSITY, DIAMETER, DIRECTION_PART, EXPANSION, EXTRA_WEIGHT, GAP, HANGER_LOAD, LOAD, MODULUS, MOVEMENT, OCCASIONAL_PERCENT, PAD_THICKNESS, POISSON_RATIO, PRESSURE, STIFFNESS, TEE_COEFFICIENT, TEMPERATURE_CHANGE, WALL, WALL_ALLOWANCE}
 use Rattle.model_types.specs.declared.records.Material.{Material}
 use Rattle.model_types.specs.declared.records.Section.{Section}
 use Rattle.model_types.specs.declared.records.Node.{Node}
@@ -16,6 +16,8 @@ use Rattle.model_types.specs.declared.records.RestraintKind.TheVariants.{Anchor,
 use Rattle.model_types.specs.declared.records.Case.{Case}
 use Rattle.model_types.specs.declared.records.Force.{Force}
 use Rattle.model_types.specs.declared.records.Move.{Move}
+use Rattle.model_types.specs.declared.records.CheckKind.{CheckKind}
+use Rattle.model_types.specs.declared.records.CheckKind.TheVariants as check
 use Rattle.model_types.specs.declared.records.Record.{Record}
 use Rattle.model_types.specs.declared.records.Record.TheVariants as record_of
 use Rattle.text_words.specs.Names.{IsName}
@@ -115,6 +117,18 @@ pub record MoveInForm (v : Move) : Type 0 where
   pub y : IsIn MOVEMENT v.y
   pub z : IsIn MOVEMENT v.z
 
+-- the numbers of an expansion check
+pub record ExpansionInForm (sc sh n fm : ℤ) : Type 0 where
+  pub cold : IsIn ALLOWABLE_STRESS sc
+  pub hot : IsIn ALLOWABLE_STRESS sh
+  pub cycles : IsIn CYCLES n
+  pub factor : IsIn CYCLE_FACTOR fm
+
+abbrev pub CheckInForm : CheckKind → Type 0
+CheckInForm (check.Sustained case sh) = IsIn ALLOWABLE_STRESS sh
+CheckInForm (check.Occasional case sh percent) = IsIn ALLOWABLE_STRESS sh × IfSome percent (IsIn OCCASIONAL_PERCENT)
+CheckInForm (check.Expansion case1 case2 sc sh cycles fm sus) = ExpansionInForm sc sh cycles fm
+
 -- the record's names and numbers are in their forms and ranges
 abbrev pub InForm : Record → Type 0
 InForm (record_of.Material r) = MaterialInForm r
@@ -128,3 +142,4 @@ InForm (record_of.Temp r) = IsIn TEMPERATURE_CHANGE r.dt
 InForm (record_of.Pressure r) = IsIn PRESSURE r.p
 InForm (record_of.Force r) = ForceInForm r
 InForm (record_of.Move r) = MoveInForm r
+InForm (record_of.Check r) = IsName r.name × CheckInForm r.kind

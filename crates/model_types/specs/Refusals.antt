@@ -12,12 +12,14 @@ use Rattle.model_types.specs.declared.records.Section.{Section}
 use Rattle.model_types.specs.declared.records.Node.{Node}
 use Rattle.model_types.specs.declared.records.Element.{Element}
 use Rattle.model_types.specs.declared.records.Restraint.{Restraint}
+use Rattle.model_types.specs.declared.records.Check.{Check}
+use Rattle.model_types.specs.declared.ids.CheckId.{CheckId}
 use Rattle.model_types.specs.declared.records.Shape.{Shape}
 use Rattle.model_types.specs.declared.records.Shape.TheVariants.{Straight, Bend}
 use Rattle.model_types.specs.declared.records.Record.{Record}
 use Rattle.model_types.specs.declared.records.Record.TheVariants as record_of
 use Rattle.model_types.specs.Bends.{difference_between, difference_to, are_parallel, shortest_chord, longest_chord}
-use Rattle.model_types.specs.Kinds.{Kind, Of, list, as_record, before, kind_of, count, most, is_keyed, key, keys, Ref, refs, is_anchor, has_stop, stop_count}
+use Rattle.model_types.specs.Kinds.{Kind, Of, list, as_record, before, kind_of, count, most, is_keyed, key, keys, Ref, refs, is_anchor, is_sustained, named_check, has_stop, stop_count}
 use Rattle.model_types.specs.Lists.{Lists}
 use Rattle.model_types.specs.Rules.{KeepsRules, square_distance}
 
@@ -115,10 +117,20 @@ IsSineFor (record_of.Temp r) sine = Unit {0}
 IsSineFor (record_of.Pressure r) sine = Unit {0}
 IsSineFor (record_of.Force r) sine = Unit {0}
 IsSineFor (record_of.Move r) sine = Unit {0}
+IsSineFor (record_of.Check r) sine = Unit {0}
 
 -- the restraint of that number is no anchor
 abbrev pub is_other_restraint : List Restraint → ℕ → Bool
 is_other_restraint restraints number = option_map_or (λ x. not (is_anchor x.kind)) (slice_get restraints number) false
+
+-- the check of that number is no sustained one
+abbrev pub is_other_check : List Check → ℕ → Bool
+is_other_check checks number = option_map_or (λ x. not (is_sustained x.kind)) (slice_get checks number) false
+
+-- another check than a sustained one is named
+abbrev pub names_other : List Check → Option CheckId → Bool
+names_other checks None = false
+names_other checks (Some sus) = is_other_check checks sus.0
 
 -- the tests of a record's own kind
 abbrev pub own_tests : Lists → Record → List Test
@@ -133,6 +145,7 @@ own_tests m (record_of.Temp r) = []
 own_tests m (record_of.Pressure r) = []
 own_tests m (record_of.Force r) = []
 own_tests m (record_of.Move r) = test 9 (is_other_restraint m.restraints r.anchor.0) ∷ []
+own_tests m (record_of.Check r) = test 9 (names_other m.checks (named_check r.kind)) ∷ []
 
 -- the kind has as many records as it may have, or the record is one stop too many
 abbrev pub is_too_many : Lists → Record → Bool

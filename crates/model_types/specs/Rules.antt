@@ -1,5 +1,5 @@
 -- The rules that every model keeps.
-use Rattle.std.specs.Prelude.{◌≡◌, ◌≢◌, ℕ, ℤ, ◌+◌, ◌*◌, ◌<◌, ◌≤◌, pos, ◌-ℤ◌, ◌*ℤ◌, ◌<ℤ◌, ◌≤ℤ◌, unsigned_abs, IsTrue, [], length, slice_get, Some, Ok, All, AllPairs, Contains}
+use Rattle.std.specs.Prelude.{◌≡◌, ◌≢◌, ℕ, ℤ, ◌+◌, ◌*◌, ◌<◌, ◌≤◌, pos, ◌-ℤ◌, ◌*ℤ◌, ◌<ℤ◌, ◌≤ℤ◌, unsigned_abs, IsTrue, length, slice_get, Some, IfSome, Ok, All, AllPairs, Contains}
 use Rattle.flex_interval.specs.Ends.{Ends}
 use Rattle.angle_table.specs.HalfAngle.{sine_of}
 use Rattle.model_types.specs.declared.ranges.TheConstants.{LONGEST, MOST_STOPS}
@@ -8,13 +8,15 @@ use Rattle.model_types.specs.declared.records.Node.{Node}
 use Rattle.model_types.specs.declared.records.Element.{Element}
 use Rattle.model_types.specs.declared.records.Move.{Move}
 use Rattle.model_types.specs.declared.records.Restraint.{Restraint}
+use Rattle.model_types.specs.declared.records.Check.{Check}
+use Rattle.model_types.specs.declared.records.CheckKind.{CheckKind}
 use Rattle.model_types.specs.declared.records.Shape.{Shape}
 use Rattle.model_types.specs.declared.records.Shape.TheVariants.{Straight, Bend}
 use Rattle.model_types.specs.declared.spans.Difference.{Difference}
 use Rattle.model_types.specs.declared.records.Record.{Record}
 use Rattle.model_types.specs.declared.records.Record.TheVariants as record_of
 use Rattle.model_types.specs.Bends.{difference_between, difference_to, AreParallel, IsNear, IsChordSquare}
-use Rattle.model_types.specs.Kinds.{Kind, material_kind, section_kind, node_kind, element_kind, tee_kind, restraint_kind, case_kind, temp_kind, pressure_kind, force_kind, move_kind, Of, list, as_record, kind_of, count, most, is_keyed, key, keys, refs, AreThere, is_anchor, has_stop, stop_count, before}
+use Rattle.model_types.specs.Kinds.{Kind, material_kind, section_kind, node_kind, element_kind, tee_kind, restraint_kind, case_kind, temp_kind, pressure_kind, force_kind, move_kind, check_kind, Of, list, as_record, kind_of, count, most, is_keyed, key, keys, refs, AreThere, is_anchor, is_sustained, named_check, has_stop, stop_count, before}
 use Rattle.model_types.specs.Lists.{Lists}
 use Rattle.model_types.specs.Ranges.{InForm}
 use Rattle.model_types.specs.Tees.{IsTee}
@@ -59,6 +61,14 @@ pub record HasSoundWall (s : Section) : Type 0 where
 abbrev pub MovesAnchor : Lists → Move → Type 0
 MovesAnchor m r = (x : Restraint) → slice_get m.restraints r.anchor.0 ≡ Some x → IsTrue (is_anchor x.kind)
 
+-- a check: the check that it names is a sustained one
+abbrev pub NamesSustained : Lists → CheckKind → Type 0
+NamesSustained m kind = IfSome (named_check kind) (λ sus. (x : Check) → slice_get m.checks sus.0 ≡ Some x → IsTrue (is_sustained x.kind))
+
+-- and an earlier one than number i
+abbrev pub NamesEarlier : ℕ → CheckKind → Type 0
+NamesEarlier i kind = IfSome (named_check kind) (λ sus. sus.0 < i)
+
 -- the rule of a record's own kind, over and above its form and that the records that it names are there
 abbrev pub KeepsOwn : Lists → Record → Type 0
 KeepsOwn m (record_of.Material r) = Unit {0}
@@ -72,6 +82,7 @@ KeepsOwn m (record_of.Temp r) = Unit {0}
 KeepsOwn m (record_of.Pressure r) = Unit {0}
 KeepsOwn m (record_of.Force r) = Unit {0}
 KeepsOwn m (record_of.Move r) = MovesAnchor m r
+KeepsOwn m (record_of.Check r) = NamesSustained m r.kind
 
 -- a record keeps its rule among others: it is in form, the records that it names are there, and it keeps its kind's own rule
 pub record Keeps (m : Lists) (r : Record) : Type 0 where
@@ -80,13 +91,12 @@ pub record Keeps (m : Lists) (r : Record) : Type 0 where
   pub own : KeepsOwn m r
 
 -- each record keeps its rule among those before it, no two of a kind have one key, no kind has too many, nor are there too
--- many stops, and there is no check, a kind that isn't read yet
+-- many stops
 pub record KeepsRules (m : Lists) : Type 0 where
   pub records : (k : Kind) (i : ℕ) (x : Of k) → slice_get (list m k) i ≡ Some x → Keeps (before m k i) (as_record k x)
   pub distinct : (k : Kind) → IsTrue (is_keyed k) → AllPairs (λ a b. a ≢ b) (keys m k)
   pub limits : (k : Kind) → count m k ≤ most k
   pub stops : stop_count m.restraints ≤ MOST_STOPS
-  pub no_check : m.checks ≡ []
 
 -- a record may be the next: it keeps its rule, its key is new, and there is room for it
 pub record MayBeNext (m : Lists) (r : Record) : Type 0 where
@@ -95,7 +105,7 @@ pub record MayBeNext (m : Lists) (r : Record) : Type 0 where
   pub room : count m (kind_of r) < most (kind_of r)
   pub stop_room : IsTrue (has_stop r) → stop_count m.restraints < MOST_STOPS
 
--- each record of a kind keeps its rule among all
+-- each record of a kind keeps its rule among all, and a check names an earlier one
 pub record AllKeep (m : Lists) : Type 0 where
   pub materials : All (λ r. Keeps m (record_of.Material r)) m.materials
   pub sections : All (λ r. Keeps m (record_of.Section r)) m.sections
@@ -108,6 +118,8 @@ pub record AllKeep (m : Lists) : Type 0 where
   pub pressures : All (λ r. Keeps m (record_of.Pressure r)) m.pressures
   pub forces : All (λ r. Keeps m (record_of.Force r)) m.forces
   pub moves : All (λ r. Keeps m (record_of.Move r)) m.moves
+  pub checks : All (λ r. Keeps m (record_of.Check r)) m.checks
+  pub in_order : (i : ℕ) (x : Check) → slice_get m.checks i ≡ Some x → NamesEarlier i x.kind
 
 -- no kind has more records than it may
 pub record KeepsLimits (m : Lists) : Type 0 where
@@ -122,6 +134,7 @@ pub record KeepsLimits (m : Lists) : Type 0 where
   pub pressures : length m.pressures ≤ most pressure_kind
   pub forces : length m.forces ≤ most force_kind
   pub moves : length m.moves ≤ most move_kind
+  pub checks : length m.checks ≤ most check_kind
 
 -- a model keeps the rules, has a node, and the elements at the node of each tee make it; and so each record keeps its rule among all,
 -- and no list is too long

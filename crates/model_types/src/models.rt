@@ -1,11 +1,11 @@
 //! The model of a piping system.
 ghost use Rattle.std.specs.Prelude.{◌≡◌, ◌<◌, length, slice_get, Some};
-ghost use Rattle.model_types.specs.Rules.{IsModel, Keeps};
+ghost use Rattle.model_types.specs.Rules.{IsModel, Keeps, NamesEarlier};
 ghost use Rattle.model_types.specs.declared.records.Record.TheVariants as record_of;
 ghost use Rattle.model_types.specs.Refusals.{RecordsFollow};
 ghost use Rattle.model_types.specs.Tees.{TeesAreJudged};
 
-use crate::ids::{CaseId, ElementId, MaterialId, NodeId, RestraintId, SectionId};
+use crate::ids::{CaseId, CheckId, ElementId, MaterialId, NodeId, RestraintId, SectionId};
 use crate::records::{
     Case, Check, Element, Force, Material, Move, Node, Pressure, Restraint, Section, Tee, Temp,
 };
@@ -195,6 +195,17 @@ impl Model {
         ensures model { IsModel self.now }
     {
         &self.cases[id.0 as usize]
+    }
+
+    /// The code check of that number.
+    pub fn check(&self, id: CheckId) -> &Check
+        requires { id.0 < length self.now.checks }
+        ensures found { slice_get self.now.checks id.0 ≡ Some result.now }
+        ensures kept { Keeps self.now (record_of.Check result.now) }
+        ensures earlier { NamesEarlier id.0 result.now.kind }
+        ensures model { IsModel self.now }
+    {
+        &self.checks[id.0 as usize]
     }
 }
 

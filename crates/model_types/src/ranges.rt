@@ -139,6 +139,30 @@ pub const MOVEMENT: Range = Range {
     most: 1_000_000,
 };
 
+/// Allowable stress of a check, in kPa.
+pub const ALLOWABLE_STRESS: Range = Range {
+    least: 1,
+    most: 2_000_000,
+};
+
+/// The share of the allowable stress that an occasional check allows, in percent.
+pub const OCCASIONAL_PERCENT: Range = Range {
+    least: 100,
+    most: 200,
+};
+
+/// Cycles of an expansion check.
+pub const CYCLES: Range = Range {
+    least: 1,
+    most: 1_000_000_000,
+};
+
+/// The most that the cycle factor of an expansion check may be, in thousandths.
+pub const CYCLE_FACTOR: Range = Range {
+    least: 100,
+    most: 1200,
+};
+
 /// How many restraints may be one-way supports or gaps.
 pub const MOST_STOPS: usize = 1000;
 

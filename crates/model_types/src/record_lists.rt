@@ -2,7 +2,7 @@
 ghost use Rattle.std.specs.Prelude.{◌≡◌, ◌*◌, ◌≤◌, ◌^◌, pos, ◌*ℤ◌, int_le, length, [], ◌∷◌, false, ◌&&◌, map, position, is_some, nat_eq, ◌==◌, OnOk, OnErr, IfOk, All};
 ghost use Rattle.std.specs.Cmp.Lexicographic.{pointwise};
 ghost use Rattle.model_types.specs.Lists.{names_in, record_number, no_records, added};
-ghost use Rattle.model_types.specs.Kinds.{kind_of, count, most, refs, has_stop, stop_count};
+ghost use Rattle.model_types.specs.Kinds.{kind_of, count, most, refs, check_refs, named_refs, named_check, has_stop, stop_count};
 ghost use Rattle.model_types.specs.Ranges.{InForm, NodeInForm, SectionInForm, IsIn};
 ghost use Rattle.model_types.specs.Rules.{IsModel};
 ghost use Rattle.model_types.specs.Refusals as refused;
@@ -10,12 +10,12 @@ ghost use Rattle.model_types.specs.Tees.{broken_tee};
 
 use crate::NoMemory;
 use crate::answers::Bounds;
-use crate::ids::Space;
+use crate::ids::{CheckId, Space};
 use crate::models::Model;
 use crate::ranges::{MOST_STOPS, WALL};
 use crate::records::{
-    Case, Check, Element, Force, Material, Move, Node, Pressure, Record, Restraint, Section, Tee,
-    Temp,
+    Case, Check, CheckKind, Element, Force, Material, Move, Node, Pressure, Record, Restraint,
+    Section, Tee, Temp,
 };
 use crate::spans::element_refusal;
 use crate::tables::Table;
@@ -155,6 +155,7 @@ impl RecordLists {
             Record::Pressure(r) => Ok(self.pressures.push(r)?),
             Record::Force(r) => Ok(self.forces.push(r)?),
             Record::Move(r) => Ok(self.moves.push(r)?),
+            Record::Check(r) => self.checks.push(r),
         }
     }
 
@@ -209,6 +210,7 @@ impl RecordLists {
             Record::Pressure(r) => has_pressure(self.pressures.as_slice(), r.case.0, r.section.0),
             Record::Force(_) => false,
             Record::Move(r) => has_move(self.moves.as_slice(), r.case.0, r.anchor.0),
+            Record::Check(r) => self.look_up(Space::Check, &r.name).is_some(),
         }
     }
 
@@ -243,6 +245,38 @@ impl RecordLists {
                 self.cases.len() <= r.case.0 as usize
                     || self.restraints.len() <= r.anchor.0 as usize
             }
+            Record::Check(r) => self.lacks_compared(&r.kind),
+        }
+    }
+
+    // Whether a case or a check that a check names isn't there.
+    fn lacks_compared(&self, kind: &CheckKind) -> bool
+        ensures { result ≡ refused.lacks self.now (check_refs kind.now) }
+    {
+        match kind {
+            CheckKind::Sustained { case, .. } | CheckKind::Occasional { case, .. } => {
+                self.cases.len() <= case.0 as usize
+            }
+            CheckKind::Expansion {
+                case1,
+                case2,
+                sus,
+                ..
+            } => {
+                self.cases.len() <= case1.0 as usize
+                    || self.cases.len() <= case2.0 as usize
+                    || self.lacks_check(*sus)
+            }
+        }
+    }
+
+    // Whether a check that is named isn't there.
+    fn lacks_check(&self, named: Option<CheckId>) -> bool
+        ensures { result ≡ refused.lacks self.now (named_refs named) }
+    {
+        match named {
+            Some(id) => self.checks.len() <= id.0 as usize,
+            None => false,
         }
     }
 
@@ -262,6 +296,7 @@ impl RecordLists {
                 element_refusal(self.nodes.as_slice(), self.sections.as_slice(), r, sine)
             }
             Record::Move(r) => move_refusal(self.restraints.as_slice(), r.anchor.0),
+            Record::Check(r) => check_refusal(self.checks.as_slice(), &r.kind),
         }
     }
 
@@ -289,6 +324,7 @@ impl RecordLists {
             Record::Pressure(_) => self.pressures.len(),
             Record::Force(_) => self.forces.len(),
             Record::Move(_) => self.moves.len(),
+            Record::Check(_) => self.checks.len(),
         }
     }
 }
@@ -309,6 +345,7 @@ fn most(candidate: &Record) -> usize
         Record::Pressure(_) => 2048,
         Record::Force(_) => 4000,
         Record::Move(_) => 1000,
+        Record::Check(_) => 32,
     }
 }
 
@@ -321,7 +358,7 @@ fn is_stop(candidate: &Record) -> bool
         Record::Material(_) | Record::Section(_) | Record::Node(_) => false,
         Record::Element(_) | Record::Tee(_) => false,
         Record::Case(_) | Record::Temp(_) | Record::Pressure(_) => false,
-        Record::Force(_) | Record::Move(_) => false,
+        Record::Force(_) | Record::Move(_) | Record::Check(_) => false,
     }
 }
 
@@ -400,6 +437,37 @@ fn is_other_restraint(restraints: &[Restraint], number: u32) -> bool
 {
     match restraints.get(number as usize) {
         Some(restraint) => !restraint.kind.is_anchor(),
+        None => false,
+    }
+}
+
+// The test of a check: the check that it names is no sustained one.
+fn check_refusal(checks: &[Check], kind: &CheckKind) -> Option<u8>
+    ensures { result ≡ refused.first_refusal (refused.test 9 (refused.names_other checks.now (named_check kind.now)) ∷ []) }
+{
+    if names_other(checks, kind) {
+        return Some(9);
+    }
+    None
+}
+
+// Whether a check names another than a sustained one.
+fn names_other(checks: &[Check], kind: &CheckKind) -> bool
+    ensures { result ≡ refused.names_other checks.now (named_check kind.now) }
+{
+    match kind {
+        CheckKind::Expansion { sus: Some(id), .. } => is_other_check(checks, id.0),
+        CheckKind::Expansion { sus: None, .. } => false,
+        CheckKind::Sustained { .. } | CheckKind::Occasional { .. } => false,
+    }
+}
+
+// Whether the check of that number is there and is no sustained one.
+fn is_other_check(checks: &[Check], number: u32) -> bool
+    ensures { result ≡ refused.is_other_check checks.now number }
+{
+    match checks.get(number as usize) {
+        Some(check) => !check.kind.is_sustained(),
         None => false,
     }
 }

@@ -1,6 +1,6 @@
 //! The records of a model. Lengths are in micrometres, and `None` is a default that the text leaves as `-`.
 ghost use Rattle.std.specs.Prelude.{◌≡◌, ◌≤◌};
-ghost use Rattle.model_types.specs.Kinds.{is_anchor, is_stop};
+ghost use Rattle.model_types.specs.Kinds.{is_anchor, is_stop, is_sustained};
 ghost use Rattle.model_types.specs.MemberCounts.{restraint_member_count, restraint_state_count, shape_member_count};
 
 use crate::ids::{CaseId, CheckId, ElementId, MaterialId, NodeId, RestraintId, SectionId};
@@ -295,7 +295,7 @@ pub enum CheckKind {
         percent: Option<i64>,
     },
     /// ASME B31.3-2016, 302.3.5(d): the range between two cases, over 1 to 1,000,000,000 cycles, with f at most `fm`, 100 to
-    /// 1,200 thousandths, and with the sustained stress of an earlier check, if there is one.
+    /// 1,200 thousandths, and with the stresses of an earlier sustained check, if one is named.
     Expansion {
         case1: CaseId,
         case2: CaseId,
@@ -305,6 +305,18 @@ pub enum CheckKind {
         fm: i64,
         sus: Option<CheckId>,
     },
+}
+
+impl CheckKind {
+    /// Whether a check of this kind is a sustained one.
+    pub fn is_sustained(&self) -> bool
+        ensures { result ≡ is_sustained self.now }
+    {
+        match self {
+            CheckKind::Sustained { .. } => true,
+            CheckKind::Occasional { .. } | CheckKind::Expansion { .. } => false,
+        }
+    }
 }
 
 /// A record of the model text.
@@ -321,4 +333,5 @@ pub enum Record {
     Pressure(Pressure),
     Force(Force),
     Move(Move),
+    Check(Check),
 }

@@ -22,4 +22,5 @@ returns c =
     let pressures = append_kind m record_of.Pressure m.pressures c.pressures.ensures.records temps c.in_ok-put_all-9.ensures in
     let forces = append_kind m record_of.Force m.forces c.forces.ensures.records pressures c.in_ok-put_all-10.ensures in
     let moves = append_kind m record_of.Move m.moves c.moves.ensures.records forces c.in_ok-put_all-11.ensures in
-    moves ∙ simp (append_assoc, append-nil)
+    let checks = append_kind m record_of.Check m.checks c.checks.ensures.records moves c.in_ok-put_all-12.ensures in
+    checks ∙ simp (append_assoc, append-nil)
