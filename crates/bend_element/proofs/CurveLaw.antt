@@ -1,5 +1,5 @@
 -- A bend that keeps the rule of its record runs along a curve, with its corner off the line of its chord.
-use Rattle.std.proofs.Common.{◌≡◌, suc, zero, ◌≤◌, refl, arith, ℤ, pos, negsuc, ◌+ℤ◌, ◌-ℤ◌, ◌*ℤ◌, ◌≤ℤ◌, ◌<ℤ◌, unsigned_abs}
+use Rattle.std.proofs.Common.{◌≡◌, suc, zero, ◌≤◌, refl, arith, ℤ, pos, negsuc, ◌+ℤ◌, ◌-ℤ◌, ◌*ℤ◌, ◌≤ℤ◌, unsigned_abs}
 use Rattle.std.proofs.lemmas.Int.{ints, by_lt_z}
 use Rattle.int_laws.proofs.Sums.{int_sums}
 use Rattle.int_laws.proofs.Products.{square_nonnegative}
@@ -8,7 +8,7 @@ use Rattle.model_types.specs.Ranges.{IsIn, of_size}
 use Rattle.model_types.specs.declared.spans.Difference.{Difference}
 use Rattle.member_pairs.specs.Span.{square_of}
 use Rattle.bend_element.specs.Between.{BendSpansAreCurves}
-use Rattle.bend_element.specs.Normal.{normal_parts, normal_to}
+use Rattle.bend_element.specs.Normal.{WaysCross, way_by, normal_parts, normal_to}
 
 -- a number whose square isn't over 0 is 0
 zero_of_square : (d : ℤ) → (d *ℤ d) ≤ℤ pos 0 → d ≡ pos 0
@@ -23,8 +23,8 @@ same_of_square a b low = let none = zero_of_square (a -ℤ b) low in omega (arit
 none_over : (a b c : ℤ) → pos 0 ≤ℤ a → pos 0 ≤ℤ b → pos 0 ≤ℤ c → ((a +ℤ b) +ℤ c) ≤ℤ pos 0 → (a ≤ℤ pos 0) × (b ≤ℤ pos 0) × (c ≤ℤ pos 0)
 none_over a b c p q r h = (omega (arith, int_sums), omega (arith, int_sums), omega (arith, int_sums))
 
--- a way and the way to the corner whose cross product has no length are parallel
-parallel_where_flat : (u v : Difference) → square_of (normal_parts (normal_to (record { x = u.x; y = u.y; z = u.z }) (record { x = v.x; y = v.y; z = v.z }))) ≤ℤ pos 0 → AreParallel u v
+-- two ways whose cross product has no length are parallel
+parallel_where_flat : (u v : Difference) → square_of (normal_parts (normal_to (way_by u) (way_by v))) ≤ℤ pos 0 → AreParallel u v
 parallel_where_flat u v flat =
     let parts = none_over _ _ _ (square_nonnegative ((u.y *ℤ v.z) -ℤ (u.z *ℤ v.y))) (square_nonnegative ((u.z *ℤ v.x) -ℤ (u.x *ℤ v.z))) (square_nonnegative ((u.x *ℤ v.y) -ℤ (u.y *ℤ v.x))) flat in
     record {
@@ -32,6 +32,9 @@ parallel_where_flat u v flat =
       y = same_of_square (u.z *ℤ v.x) (u.x *ℤ v.z) parts.1;
       z = same_of_square (u.x *ℤ v.y) (u.y *ℤ v.x) parts.2;
     }
+
+pub ways_cross : WaysCross
+ways_cross u v off_line = by_lt_z (pos 0) _ (λ over. over) (λ flat. absurd (off_line (parallel_where_flat u v flat)))
 
 in_size : (z : ℤ) → unsigned_abs z ≤ 100000000 → IsIn (of_size 100000000) z
 in_size z near = record { least = omega (arith, ints, near); most = omega (arith, ints, near) }
@@ -43,5 +46,5 @@ spans_are_curves from to s r angle x y z form span = (
     listed = form.listed;
     corner = record { x = in_size (x -ℤ from.x) span.near.x; y = in_size (y -ℤ from.y) span.near.y; z = in_size (z -ℤ from.z) span.near.z };
   },
-  by_lt_z (pos 0) _ (λ over. over) (λ flat. absurd (span.off_line (parallel_where_flat (difference_between from to) (difference_to from x y z) flat))),
+  ways_cross (difference_between from to) (difference_to from x y z) span.off_line,
 )

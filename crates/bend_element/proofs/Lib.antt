@@ -9,3 +9,4 @@ pub mod NormalLemmas
 pub mod CurveLaw
 pub mod SomeWithin
 pub mod MadeVectors
+mod UnitLemmas

@@ -1,33 +1,32 @@
 -- A bend that has members has unit vectors at its ends: the numbers of its members leave room for them.
-use Rattle.std.proofs.Common.{◌≡◌, ℕ, ◌^◌, ◌*◌, ◌<◌, ◌≤◌, Bool, true, false, ◌&&◌, if◌then◌else◌, refl, subst, sym, ◌∙◌, ap, arith, List, [], ◌∷◌, ℤ, pos, negsuc, neg_ℤ, ◌+ℤ◌, ◌-ℤ◌, ◌*ℤ◌, ◌≤ℤ◌, ◌<ℤ◌, unsigned_abs, int_le, int_lt, Result, Ok, Err}
+use Rattle.std.proofs.Common.{◌≡◌, ℕ, ◌^◌, ◌*◌, ◌<◌, ◌≤◌, Bool, true, false, ◌&&◌, if◌then◌else◌, refl, subst, sym, arith, List, ℤ, pos, negsuc, neg_ℤ, ◌+ℤ◌, ◌-ℤ◌, ◌*ℤ◌, ◌≤ℤ◌, ◌<ℤ◌, unsigned_abs, int_le, Result, Ok, Err}
 use Rattle.std.specs.Prelude.{IsOk, nat_lt, ◌==◌}
-use Rattle.std.specs.Int.{int_min, int_max}
 use Rattle.std.specs.Ordering.{int_eq}
 use Rattle.std.proofs.lemmas.Bool.{and_parts}
 use Rattle.std.proofs.lemmas.Bool.Decides.{nat_tests}
 use Rattle.std.proofs.lemmas.Int.{ints, by_lt_z, clamps, unsigned_abs-mul}
-use Rattle.std.proofs.lemmas.Nat.{mul-le, pow_pos}
+use Rattle.std.proofs.lemmas.Nat.{mul-le}
 use Rattle.int_laws.proofs.Sums.{int_sums}
-use Rattle.int_laws.proofs.Products.{le_mul, le_of_mul, lt_of_mul, one-mul, neg-mul, mul_comm, square_le}
-use Rattle.int_laws.proofs.DivisionLemmas.{floor_of-is, ceil_of-is, floor_greatest, ceiling_least}
+use Rattle.int_laws.proofs.Products.{le_of_mul, square_le}
+use Rattle.int_laws.proofs.DivisionLemmas.{floor_of-is, ceil_of-is}
 use Rattle.int_laws.proofs.RootLemmas.{root_of-is}
 use Rattle.int_laws.specs.Division.{floor_of, ceil_of}
 use Rattle.int_laws.specs.Powers.{power}
 use Rattle.int_laws.specs.Root.{root_of, root_up_of}
 use Rattle.angle_table.specs.HalfAngle.{one, cosine_of, sine_of, cosine_of_45, cosine_of_30, half_cosine_of, half_sine_of}
 use Rattle.flex_interval.specs.Ends.{Ends}
-use Rattle.flex_interval.specs.Operations.{ends, least, greatest, small_of, product_of, point_of, holds_zero, add_of, sub_of, mul_of, products_of, multiple_of, ratio_of, div_of, quotients, quotient_down, quotient_up, shifted_of, sqrt_of, or_wide}
+use Rattle.flex_interval.specs.Operations.{ends, least, greatest, small_of, product_of, point_of, holds_zero, add_of, sub_of, mul_of, products_of, ratio_of, div_of, quotients, quotient_down, quotient_up, shifted_of, sqrt_of, or_wide}
 use Rattle.flex_interval.specs.declared.fault.IvFault.{IvFault}
 use Rattle.flex_interval.specs.declared.fault.IvFault.TheVariants as fault
 use Rattle.flex_interval.specs.declared.fault.Wide.{Wide}
 use Rattle.lists.specs.Results.{and_then}
 use Rattle.member_set.specs.declared.members.Member.{Member}
-use Rattle.member_pairs.specs.Axes.{Axis, x_axis, y_axis, z_axis}
+use Rattle.member_pairs.specs.Axes.{x_axis, y_axis, z_axis}
 use Rattle.member_pairs.specs.Lengths.{length_of, tangent_of, tangent_part_of, half_of}
 use Rattle.member_pairs.specs.Limits.{is_stiffness, is_shape_number, is_moderate}
 use Rattle.member_pairs.specs.Pairs.{limited_member, member}
 use Rattle.member_pairs.specs.Span.{square_of}
-use Rattle.member_pairs.specs.Vectors.{parts_of, part, vector_of, zero_vector, negative_of, cross_of, product_difference_of, stretched_of, total_of, difference_of}
+use Rattle.member_pairs.specs.Vectors.{parts_of, part, vector_of, negative_of, cross_of, product_difference_of, stretched_of, total_of, difference_of}
 use Rattle.member_pairs.specs.declared.tube.Tube.{Tube}
 use Rattle.member_pairs.specs.declared.way.Way.{Way}
 use Rattle.model_types.specs.declared.records.Element.{Element}
@@ -35,7 +34,7 @@ use Rattle.model_types.specs.declared.records.Section.{Section}
 use Rattle.bend_element.specs.Bend.{bend_members_of}
 use Rattle.bend_element.specs.Between.{arc_of, bend_of}
 use Rattle.bend_element.specs.Normal.{normal_to, unit_normal_of}
-use Rattle.bend_element.specs.Rounded.{flexibility_of, rigidity_of, stiffness_of, frame_of, six_of, beside, rotation_member, radial_member, chord_member, radius_moment_member, chord_moment_member, normal_member}
+use Rattle.bend_element.specs.Rounded.{flexibility_of, rigidity_of, stiffness_of, frame_of, six_of, beside, rotation_member, radial_member, chord_member}
 use Rattle.bend_element.specs.Vectors.{bend_vectors_of, vectors_in}
 use Rattle.bend_element.specs.declared.arc.Arc.{Arc}
 use Rattle.bend_element.specs.declared.between.Curve.{Curve}

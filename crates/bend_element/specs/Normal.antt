@@ -1,4 +1,4 @@
--- The unit vector across the plane of a bend.
+-- The unit vector across the plane of a bend or a tee.
 use Rattle.std.specs.Prelude.{ℕ, ◌≡◌, ◌+◌, ◌*◌, ◌^◌, List, ℤ, pos, ◌-ℤ◌, ◌*ℤ◌, ◌<ℤ◌, Result, Ok, IfOk}
 use Rattle.flex_interval.specs.BestRoot.{half_shift_of}
 use Rattle.flex_interval.specs.Ends.{Ends}
@@ -7,7 +7,9 @@ use Rattle.flex_interval.specs.Operations.{point_of, div_of, sqrt_of}
 use Rattle.lists.specs.Results.{and_then}
 use Rattle.flex_interval.specs.Roots.{IsNonnegative}
 use Rattle.flex_interval.specs.declared.fault.IvFault.{IvFault}
+use Rattle.model_types.specs.Bends.{AreParallel}
 use Rattle.model_types.specs.Ranges.{IsIn, of_size}
+use Rattle.model_types.specs.declared.spans.Difference.{Difference}
 use Rattle.member_pairs.specs.Axes.{Axis, x_axis, y_axis, z_axis}
 use Rattle.member_pairs.specs.Span.{Span, square_of}
 use Rattle.member_pairs.specs.Vectors.{vector_of}
@@ -20,7 +22,7 @@ pub record IsCornerWay (d : Way) : Type 0 where
   pub y : IsIn (of_size 100000000) d.y
   pub z : IsIn (of_size 100000000) d.z
 
--- the way to the second node crossed with the way to the corner, in square micrometres
+-- two ways crossed, as that to a bend's second node with that to its corner, in square micrometres
 abbrev pub normal_to : Way → Way → Normal
 normal_to d corner = record {
   x = (d.y *ℤ corner.z) -ℤ (d.z *ℤ corner.y);
@@ -32,6 +34,14 @@ abbrev pub normal_parts : Normal → Span
 normal_parts n x_axis = n.x
 normal_parts n y_axis = n.y
 normal_parts n z_axis = n.z
+
+-- the way of a difference of nodes
+abbrev pub way_by : Difference → Way
+way_by u = record { x = u.x; y = u.y; z = u.z }
+
+-- two ways that aren't parallel cross in a vector that isn't 0
+abbrev pub WaysCross : Type 0
+WaysCross = (u v : Difference) → ¬ (AreParallel u v) → pos 0 <ℤ square_of (normal_parts (normal_to (way_by u) (way_by v)))
 
 -- a vector that isn't 0, with parts of at most 6000 square metres
 pub record IsNormal (n : Normal) : Type 0 where

@@ -1,6 +1,7 @@
 ghost use Rattle.bend_element.specs.Arc.{PatternsWorkApart};
 ghost use Rattle.bend_element.specs.Between.{BendSpansAreCurves};
 ghost use Rattle.bend_element.specs.EndLoads.{MembersBalance, MembersCarryLoad, MembersGiveAsArc};
+ghost use Rattle.bend_element.specs.Normal.{WaysCross};
 
 /// Of Castigliano's theorem along a bend's arc: no two of the six patterns of load work on each other, each gives by the
 /// flexibility of its member, and the elastic centres lie where the patterns have them.
@@ -20,4 +21,9 @@ pub fn members_are_arc()
 /// the line of its chord.
 pub fn bend_spans_are_curves()
     ensures { BendSpansAreCurves }
+{}
+
+/// Two ways that aren't parallel cross in a vector that isn't 0.
+pub fn ways_cross()
+    ensures { WaysCross }
 {}

@@ -15,7 +15,7 @@ mod vectors;
 
 pub use arc::Arc;
 pub use between::{Curve, bend, curve_from};
-pub use laws::{bend_spans_are_curves, members_are_arc, patterns_work_apart};
+pub use laws::{bend_spans_are_curves, members_are_arc, patterns_work_apart, ways_cross};
 pub use members::bend_members;
 pub use normal::{Normal, plane_normal, unit_normal};
 pub use vectors::{BendVectors, bend_vectors};

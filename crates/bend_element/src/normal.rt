@@ -1,4 +1,4 @@
-ghost use Rattle.std.specs.Prelude.{◌≡◌, Ok, ◌+◌, ◌*◌, ◌≤◌, pos, ◌-ℤ◌, ◌*ℤ◌, ◌≤ℤ◌, ◌<ℤ◌, IfOk};
+ghost use Rattle.std.specs.Prelude.{◌≡◌, Ok, ◌+◌, ◌*◌, ◌≤◌, pos, ◌-ℤ◌, ◌*ℤ◌, ◌≤ℤ◌, ◌<ℤ◌, IfOk, IsOk};
 ghost use Rattle.flex_interval.specs.Fraction.{Fraction, Within, whole, over};
 ghost use Rattle.flex_interval.specs.Operations.{point_of, sqrt_of};
 ghost use Rattle.model_types.specs.Ranges.{IsIn, of_size};
@@ -9,7 +9,7 @@ ghost use Rattle.bend_element.specs.Normal.{IsCornerWay, IsNormal, normal_to, no
 use flex_interval::{Iv, IvFault, best_root, div, point};
 use member_pairs::Way;
 
-/// A vector across the plane of a bend, in square micrometres.
+/// A vector across the plane of a bend or a tee, in square micrometres.
 #[derive(Clone, Copy)]
 pub struct Normal {
     pub x: i64,
@@ -24,7 +24,8 @@ pub struct NormalLength {
     pub scaled: Iv,
 }
 
-/// The way to a bend's second node crossed with the way to its corner, where the tangents at its ends meet; both from the first node.
+/// Two ways crossed: in a bend the way to its second node with the way to its corner, where the tangents at its ends meet, both
+/// from the first node; in a tee the way along its branch with that along its header.
 pub fn plane_normal(way: &Way, corner: &Way) -> Normal
     requires way { IsWay way.now }
     requires corner { IsCornerWay corner.now }
@@ -51,7 +52,7 @@ fn minor(a: i64, b: i64, c: i64, d: i64) -> i64
     a * b - c * d
 }
 
-/// The unit vector along a vector across a bend's plane, in units of 2^-56.
+/// The unit vector along a vector across a plane, in units of 2^-56; it is always there.
 #[tactic(auto, unfolding(crate::specs::Normal::unit_normal_of))]
 pub fn unit_normal(normal: &Normal) -> Result<[Iv; 3], IvFault>
     requires { IsNormal normal.now }
@@ -60,6 +61,7 @@ pub fn unit_normal(normal: &Normal) -> Result<[Iv; 3], IvFault>
 
     // The exact length is such a length.
     ensures length { (l : Fraction) → IsNormalLength (normal_parts normal.now) l → IsNormalLengthWithin (normal_parts normal.now) l }
+    ensures found { IsOk result }
 {
     let length = normal_length(normal);
     unit_parts(normal, &length)

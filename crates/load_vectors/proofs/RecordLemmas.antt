@@ -6,7 +6,8 @@ use Rattle.model_types.specs.declared.records.Temp.{Temp}
 use Rattle.model_types.specs.declared.records.Pressure.{Pressure}
 use Rattle.model_types.specs.Ranges.{IsIn}
 use Rattle.model_types.specs.declared.ranges.TheConstants.{PRESSURE, TEMPERATURE_CHANGE}
-use Rattle.load_vectors.specs.Cases.{dt_or, found_at, p_or}
+use Rattle.model_types.specs.Places.{found_at}
+use Rattle.load_vectors.specs.Cases.{dt_or, p_or}
 
 pub kept_at : {X : Type 0} (P : X → Type 0) (xs : List X) (i : ℕ) → All P xs → IfSome (slice_get xs i) P
 kept_at P xs i all =

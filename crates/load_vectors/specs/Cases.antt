@@ -1,10 +1,11 @@
 -- What a case has for each element, section and anchor.
-use Rattle.std.specs.Prelude.{ℕ, ◌==◌, ◌&&◌, Bool, false, List, [], Option, None, Some, position, slice_get, pos, ℤ, Result}
+use Rattle.std.specs.Prelude.{ℕ, ◌==◌, ◌&&◌, Bool, false, List, [], Option, None, Some, position, pos, ℤ, Result}
 use Rattle.std.specs.List.{slice_index_or}
 use Rattle.flex_interval.specs.Ends.{Ends}
 use Rattle.flex_interval.specs.declared.fault.IvFault.{IvFault}
 use Rattle.lists.specs.Results.{and_then}
 use Rattle.model_types.specs.Lists.{Lists}
+use Rattle.model_types.specs.Places.{found_at}
 use Rattle.model_types.specs.Ranges.{IsIn}
 use Rattle.model_types.specs.declared.ranges.TheConstants.{PRESSURE, TEMPERATURE_CHANGE}
 use Rattle.model_types.specs.declared.records.Case.{Case}
@@ -35,11 +36,6 @@ dt_or (Some t) dt = t.dt
 abbrev pub p_or : Option Pressure → ℤ → ℤ
 p_or None p = p
 p_or (Some r) p = r.p
-
--- the record at a place, where there is one
-abbrev pub found_at : {X : Type 0} → List X → Option ℕ → Option X
-found_at xs None = None
-found_at xs (Some i) = slice_get xs i
 
 -- the records of a case for a section or a restraint, where there is one
 abbrev pub temp_of : List Temp → ℕ → ℕ → Option Temp

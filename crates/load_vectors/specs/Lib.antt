@@ -5,3 +5,4 @@ pub mod NodeLoads
 pub mod Loads
 pub mod Totals
 pub mod Laws
+pub mod Equilibria

@@ -20,6 +20,7 @@ use Rattle.member_pairs.specs.Lengths.{IsLengthWithin}
 use Rattle.member_pairs.specs.Vectors.{Exact, IsWay, parts_of}
 use Rattle.member_pairs.specs.declared.way.Way.{Way}
 use Rattle.structure.specs.Elements.{section_of, material_of}
+pub use Rattle.structure.specs.Elements.{node_at}
 use Rattle.load_vectors.specs.Cases.{case_at, way_along, end_load_in}
 use Rattle.load_vectors.specs.Weights.{exact_element_weight, exact_end_force, exact_end_moment}
 use Rattle.load_vectors.specs.declared.weights.EndLoad.{EndLoad}
@@ -94,10 +95,6 @@ exact_end_part force moment freedom = by_freedom (force x_axis) (force y_axis) (
 -- the exact weight of an element
 abbrev pub exact_weight_in : Lists → Element → Reading → Fraction
 exact_weight_in m e x = exact_element_weight (section_of m e) (material_of m (section_of m e)) e.shape x.pi (x.length (way_along m e))
-
-abbrev pub node_at : Element → Bool → ℕ
-node_at e false = e.from.0
-node_at e true = e.to.0
 
 -- the weight of an element on an end
 abbrev pub weight_load : Lists → ℕ → Element → Bool → NodeLoad

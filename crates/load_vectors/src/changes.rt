@@ -5,7 +5,7 @@ ghost use Rattle.model_types.specs.Ranges.{IsIn, MoveInForm};
 ghost use Rattle.model_types.specs.declared.ranges.TheConstants.{PRESSURE, TEMPERATURE_CHANGE};
 ghost use Rattle.load_vectors.specs.Cases.{IsPipeChange, dt_of, pressure_of, move_of, dt_or, p_or, temp_of, pressure_record_of, move_in};
 
-use model_types::{CaseId, Model, Move, Pressure, Temp};
+use model_types::{CaseId, Model, Move, Pressure, SectionId, Temp};
 use std::alloc::{AllocError, Global};
 
 /// What a case changes in the pipes of a section.
@@ -47,6 +47,15 @@ fn change_of(m: &Model, case: CaseId, section: u32) -> PipeChange
         dt: dt_or(temp_of(m.temps(), case.0, section), own.dt),
         p: p_or(pressure_of(m.pressures(), case.0, section), own.p),
     }
+}
+
+/// The pressure in the pipes of a section in a case, in Pa.
+pub fn section_pressure(m: &Model, case: CaseId, section: SectionId) -> i64
+    requires { case.0 < length m.now.cases }
+    ensures value { result ≡ pressure_of m.now case.0 section.0 }
+    ensures form { IsIn PRESSURE result }
+{
+    change_of(m, case, section.0).p
 }
 
 fn dt_or(temp: Option<Temp>, dt: i64) -> i64

@@ -11,6 +11,7 @@ mod multiples;
 mod rows;
 mod weights;
 
+pub use changes::section_pressure;
 pub use deformations::deformation;
 pub use elements::{deltas, end_load};
 pub use fault::LoadFault;

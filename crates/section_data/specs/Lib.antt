@@ -1,1 +1,2 @@
 pub mod Tube
+pub mod Values

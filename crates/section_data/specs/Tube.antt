@@ -27,7 +27,7 @@ inside_diameter s reduced = s.d -ℤ (pos 2 *ℤ wall_of s reduced)
 -- an outside and an inside diameter in range
 pub record IsHollow (outside inside : ℤ) : Type 0 where
   pub inside_low : pos 1 ≤ℤ inside
-  pub thick : inside ≤ℤ outside
+  pub thick : inside <ℤ outside
   pub outside_high : outside ≤ℤ pos 2000000
 
 -- D^2 - d^2

@@ -32,7 +32,7 @@ fn wall(s: &Section, reduced: bool) -> i64
 pub fn square_difference(outside: i64, inside: i64) -> i128
     requires { IsHollow outside inside }
     ensures value { result ≡ (outside *ℤ outside) -ℤ (inside *ℤ inside) }
-    ensures low { pos 0 ≤ℤ result }
+    ensures low { pos 0 <ℤ result }
     ensures high { result ≤ℤ pos (4 * 10 ^ 12) }
 {
     square(outside) - square(inside)
@@ -42,7 +42,7 @@ pub fn square_difference(outside: i64, inside: i64) -> i128
 pub fn square_sum(outside: i64, inside: i64) -> i128
     requires { IsHollow outside inside }
     ensures value { result ≡ (outside *ℤ outside) +ℤ (inside *ℤ inside) }
-    ensures low { pos 0 ≤ℤ result }
+    ensures low { (outside *ℤ outside) ≤ℤ result }
     ensures high { result ≤ℤ pos (8 * 10 ^ 12) }
 {
     square(outside) + square(inside)
@@ -62,11 +62,11 @@ fn square(length: i64) -> i128
 /// The area of the wall.
 #[tactic(auto, unfolding(crate::specs::Tube::exact_area))]
 pub fn area(difference: i128) -> Iv
-    requires low { pos 0 ≤ℤ difference }
+    requires low { pos 0 <ℤ difference }
     requires high { difference ≤ℤ pos (4 * 10 ^ 12) }
     ensures value { ratio_of pi_ends difference (pos (2 ^ 42)) ≡ Ok result }
     ensures within { (pi : Fraction) → Within pi_ends pi → Within result (exact_area pi difference) }
-    ensures lo { pos 0 ≤ℤ result.lo }
+    ensures lo { pos 8 ≤ℤ result.lo }
     ensures hi { result.hi ≤ℤ pos (2 ^ 58) }
 {
     share(pi(), difference, 1 << 42)
@@ -74,15 +74,17 @@ pub fn area(difference: i128) -> Iv
 
 /// The section modulus, from the area.
 pub fn modulus(area: Iv, sum: i128, outside: i64) -> Iv
-    requires lo { pos 0 ≤ℤ area.lo }
+    requires lo { pos 8 ≤ℤ area.lo }
     requires hi { area.hi ≤ℤ pos (2 ^ 58) }
-    requires sum_low { pos 0 ≤ℤ sum }
+    requires sum_low { (outside *ℤ outside) ≤ℤ sum }
     requires sum_high { sum ≤ℤ pos (8 * 10 ^ 12) }
     requires outside_low { pos 1 ≤ℤ outside }
     requires outside_high { outside ≤ℤ pos 2000000 }
     ensures value { ratio_of area sum (pos 8 *ℤ outside) ≡ Ok result }
     ensures within { (x : Fraction) → Within area x → Within result (scaled x sum (pos 8 *ℤ outside)) }
+    ensures lo { pos 0 <ℤ result.lo }
 {
+    prove!(area.lo <= area.hi);
     share(area, sum, eightfold(outside))
 }
 

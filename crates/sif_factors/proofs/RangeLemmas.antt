@@ -1,12 +1,15 @@
 -- Bends and tees of a text keep 1/h in range, and the index in plane of a tee is a factor.
-use Rattle.std.proofs.Common.{◌≡◌, ◌^◌, arith, subst, true, false, Bool, ℤ, pos, ◌+ℤ◌, ◌*ℤ◌, ◌≤ℤ◌, ◌<ℤ◌, Result, Ok, Err, if◌then◌else◌}
-use Rattle.std.proofs.lemmas.Int.{ints}
+use Rattle.std.proofs.Common.{◌≡◌, ◌*◌, ◌^◌, arith, ap, sym, subst, true, false, Bool, ℤ, pos, ◌+ℤ◌, ◌*ℤ◌, ◌≤ℤ◌, ◌<ℤ◌, Result, Ok, Err, if◌then◌else◌}
+use Rattle.std.proofs.lemmas.Int.{ints, clamps}
+use Rattle.std.specs.Int.{int_min, int_max}
+use Rattle.int_laws.specs.Division.{floor_of, ceil_of}
+use Rattle.int_laws.proofs.DivisionLemmas.{floor_of-is, floor_greatest}
 use Rattle.int_laws.proofs.Sums.{int_sums}
 use Rattle.int_laws.proofs.Products.{le_mul, mul_comm, mul_positive, square_nonnegative, product_most}
 use Rattle.flex_interval.specs.Ends.{Ends}
 use Rattle.flex_interval.specs.declared.fault.IvFault.{IvFault}
 use Rattle.flex_interval.specs.declared.fault.IvFault.TheVariants as fault
-use Rattle.flex_interval.specs.Operations.{add_of, ends, is_small, small_of}
+use Rattle.flex_interval.specs.Operations.{add_of, ends, is_small, multiple_of, ratio_of, small_of}
 use Rattle.lists.specs.Results.{and_then}
 use Rattle.sif_factors.specs.Factors.{IsFactor}
 use Rattle.sif_factors.specs.Inverse.{InverseInRange}
@@ -76,5 +79,28 @@ sum_is : (a b e : Ends) → add_of a b ≡ Ok e → ends (a.lo +ℤ b.lo) (a.hi 
 unfolding add_of
 sum_is a b e is = two_tested (is_small (a.lo +ℤ b.lo)) (is_small (a.hi +ℤ b.hi)) (a.lo +ℤ b.lo) (a.hi +ℤ b.hi) e is
 
+pub sum_low : (a b e : Ends) → add_of a b ≡ Ok e → e.lo ≡ a.lo +ℤ b.lo
+sum_low a b e is = ap (λ (e : Ends). e.lo) (sym (sum_is a b e is))
+
 pub sum_is_factor : (a b e : Ends) → add_of a b ≡ Ok e → pos 0 ≤ℤ a.lo → a.hi ≤ℤ pos (2 ^ 42) → pos 0 ≤ℤ b.lo → b.hi ≤ℤ pos (2 ^ 42) → IsFactor e
 sum_is_factor a b e is a_low a_high b_low b_high = subst IsFactor (sum_is a b e is) (record { low = omega (arith, int_sums); high = omega (arith, int_sums) })
+
+-- ---- the lower end of three quarters of an interval
+
+abbrev quarters_of : ℤ → ℤ → Ends
+quarters_of x y = ends (floor_of (int_min x y) (pos 4)) (ceil_of (int_max x y) (pos 4))
+
+two_scaled : (s t : Bool) (x y : ℤ) (e : Ends) →
+    and_then (and_then (tested s x) (λ x. and_then (tested t y) (λ y. Result.Ok (ends (int_min x y) (int_max x y))))) (λ e. Ok (ends (floor_of e.lo (pos 4)) (ceil_of e.hi (pos 4)))) ≡ Ok e → e ≡ quarters_of x y
+two_scaled true true x y e is = cc
+two_scaled true false x y e is = absurd (cc)
+two_scaled false t x y e is = absurd (cc)
+
+pub three_quarters_low : (a e : Ends) → ratio_of a (pos 3) (pos 4) ≡ Ok e → a.lo ≤ℤ a.hi → pos (2 ^ 30) ≤ℤ a.lo → pos (3 * 2 ^ 28) ≤ℤ e.lo
+unfolding ratio_of multiple_of
+three_quarters_low a e is ordered from_one =
+    let x = a.lo *ℤ pos 3 in
+    let y = a.hi *ℤ pos 3 in
+    let low : int_min x y ≡ x = omega (arith, ints, clamps) in
+    let end : e.lo ≡ floor_of (int_min x y) (pos 4) = ap (λ (e : Ends). e.lo) (two_scaled (is_small x) (is_small y) x y e is) in
+    rw (end, low) (floor_greatest (pos (3 * 2 ^ 28)) (omega (arith, ints)) (floor_of-is x (pos 4) (omega (arith, ints))) (omega (arith, ints, from_one)))

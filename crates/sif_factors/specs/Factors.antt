@@ -34,6 +34,11 @@ pub record AreFactors (f : Factors) : Type 0 where
   pub ii : IsFactor f.ii
   pub io : IsFactor f.io
 
+-- the indices are 1 at least
+pub record AreFromOne (f : Factors) : Type 0 where
+  pub ii : pos (2 ^ 30) ≤ℤ f.ii.lo
+  pub io : pos (2 ^ 30) ≤ℤ f.io.lo
+
 -- the factors of a bend of radius r
 unfoldable pub bend_factors_of : Section → ℤ → Result Factors IvFault
 bend_factors_of s r =

@@ -97,7 +97,7 @@ pub fn index(v: Iv, n: i128, m: i128) -> Iv
     requires size { m ≤ℤ pos 1000 }
     ensures value { index_of v n m ≡ Ok result }
     ensures encloses { (square : Fraction) → Within v (in_parts (reciprocal square) 40) → EnclosesIndex (record { num = n; den = m }) square result }
-    ensures lo { pos 0 ≤ℤ result.lo }
+    ensures from_one { pos (2 ^ 30) ≤ℤ result.lo }
     ensures hi { result.hi ≤ℤ pos (2 ^ 42) }
 {
     let cube = share(v, n, m);
@@ -108,12 +108,14 @@ pub fn index(v: Iv, n: i128, m: i128) -> Iv
 /// The index in plane of a tee, three quarters of that out of plane and one quarter, in units of 2^-30.
 #[tactic(auto, unfolding(crate::specs::Rounded::in_plane_index_of))]
 pub fn in_plane(io: Iv) -> Iv
-    requires lo { pos 0 ≤ℤ io.lo }
+    requires from_one { pos (2 ^ 30) ≤ℤ io.lo }
     requires hi { io.hi ≤ℤ pos (2 ^ 42) }
     ensures value { in_plane_index_of io ≡ Ok result }
     ensures within { (i : Fraction) → Within io i → Within result (plus (scaled i (pos 3) (pos 4)) (whole (pos (2 ^ 28)))) }
     ensures size { IsFactor result }
+    ensures from_one { pos (2 ^ 30) ≤ℤ result.lo }
 {
+    prove!(io.lo <= io.hi);
     small_sum(share(io, 3, 4), point(1 << 28))
 }
 

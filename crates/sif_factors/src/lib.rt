@@ -8,7 +8,7 @@ ghost use Rattle.model_types.specs.Ranges.{TeeInForm};
 ghost use Rattle.sif_factors.specs.Parts.{squared};
 ghost use Rattle.sif_factors.specs.Characteristic.{HasBore, IsBendRadius, bend_characteristic, tee_square};
 ghost use Rattle.sif_factors.specs.Index.{EnclosesIndex};
-ghost use Rattle.sif_factors.specs.Factors.{AreFactors, flexibility_factor, greater_cube, lesser_cube, bend_factors_of, tee_factors_of};
+ghost use Rattle.sif_factors.specs.Factors.{AreFactors, AreFromOne, flexibility_factor, greater_cube, lesser_cube, bend_factors_of, tee_factors_of};
 
 use flex_interval::{Iv, point};
 use model_types::{Section, TeeKind};
@@ -40,6 +40,7 @@ pub fn bend_factors(s: &Section, r: i64) -> Factors
     ensures in_plane { EnclosesIndex greater_cube (squared (bend_characteristic s.now r)) result.ii }
     ensures out_of_plane { EnclosesIndex lesser_cube (squared (bend_characteristic s.now r)) result.io }
     ensures sizes { AreFactors result }
+    ensures from_one { AreFromOne result }
 {
     let inverse = characteristic::bend_inverse(s, r);
     let square = index::inverse_square(&inverse);
@@ -60,6 +61,7 @@ pub fn tee_factors(header: &Section, kind: TeeKind) -> Factors
     ensures out_of_plane { EnclosesIndex greater_cube (tee_square header.now kind) result.io }
     ensures in_plane { (i : Fraction) → Within result.io i → Within result.ii (plus (scaled i (pos 3) (pos 4)) (whole (pos (2 ^ 28)))) }
     ensures sizes { AreFactors result }
+    ensures from_one { AreFromOne result }
 {
     let io = index::index(characteristic::tee_inverse_square(header, kind), 729, 1000);
     Factors {

@@ -13,3 +13,5 @@ pub mod StationLemmas
 pub mod StateLaw
 pub mod Runs
 pub mod StateOrder
+pub mod LeadLaw
+pub mod TeeLemmas

@@ -1,5 +1,5 @@
 -- The intervals of a structure hold numbers: the exact ones of its elements and restraints.
-use Rattle.std.proofs.Common.{◌≡◌, ℕ, zero, suc, ◌+◌, ◌-◌, ◌/◌, ◌%◌, ◌<◌, ◌≤◌, ◌^◌, inl, inr, Bool, true, false, refl, sym, subst, ap, ◌∙◌, arith, List, [], ◌∷◌, ◌++◌, length, length-append, get_or, All, Option, Result, Ok, ℤ, pos, ◌*ℤ◌, ◌+ℤ◌, ◌≤ℤ◌, if◌then◌else◌}
+use Rattle.std.proofs.Common.{◌≡◌, ℕ, zero, suc, ◌+◌, ◌/◌, ◌%◌, ◌<◌, ◌^◌, Bool, true, false, refl, sym, subst, ◌∙◌, arith, List, [], ◌∷◌, ◌++◌, length, get_or, All, Option, Result, Ok, ℤ, pos, ◌*ℤ◌, ◌+ℤ◌, ◌≤ℤ◌, if◌then◌else◌}
 use Rattle.std.specs.Prelude.{◌==◌}
 use Rattle.std.specs.List.{flat_map}
 use Rattle.std.specs.Ordering.{int_eq}
@@ -16,7 +16,7 @@ use Rattle.flex_interval.specs.declared.fault.Wide.{Wide}
 use Rattle.flex_interval.specs.Operations.{ends}
 use Rattle.member_set.specs.declared.members.Member.{Member}
 use Rattle.member_set.specs.declared.members.Built.{Built}
-use Rattle.member_set.specs.Members.{nothing, no_member, member_of, shape_at}
+use Rattle.member_set.specs.Members.{nothing, no_member, shape_at}
 use Rattle.model_types.specs.Lists.{Lists}
 use Rattle.model_types.specs.MemberCounts.{shape_member_count}
 use Rattle.model_types.specs.declared.records.Material.{Material}

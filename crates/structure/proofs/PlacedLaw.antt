@@ -1,5 +1,5 @@
 -- Where the members of an element stand among those of a structure, and what they hold there.
-use Rattle.std.proofs.Common.{◌≡◌, ℕ, zero, suc, ◌+◌, ◌<◌, ◌≤◌, sym, subst, ap, ◌∙◌, arith, inl, inr, List, [], ◌++◌, length, length-append, append-nil, append_assoc, take, drop, Ok}
+use Rattle.std.proofs.Common.{◌≡◌, ℕ, zero, suc, ◌<◌, sym, subst, ap, ◌∙◌, arith, inl, inr, List, [], ◌++◌, length, length-append, append-nil, append_assoc, take, drop, Ok}
 use Rattle.std.specs.List.{flat_map}
 use Rattle.std.proofs.lemmas.Bool.{cases_eq}
 use Rattle.std.proofs.Math.Seq.{take-append_seam, drop-append_seam}

@@ -1,21 +1,19 @@
 -- The members that have states: their numbers rise, and they are those with one-way laws.
-use Rattle.std.proofs.Common.{◌≡◌, ℕ, zero, suc, ◌+◌, ◌-◌, ◌<◌, ◌≤◌, inl, inr, List, [], ◌∷◌, length, refl, sym, ap, ◌∙◌, subst, arith, ℤ, Option, Some, None, Ok, take}
+use Rattle.std.proofs.Common.{◌≡◌, ℕ, zero, suc, ◌+◌, ◌-◌, ◌<◌, ◌≤◌, inl, inr, List, length, refl, sym, ap, ◌∙◌, subst, arith, ℤ, Option, Some, None, Ok}
 use Rattle.std.specs.Prelude.{Contains, replicate}
 use Rattle.std.proofs.lemmas.Bool.{cases_lt}
 use Rattle.std.proofs.lemmas.List.{take_all}
 use Rattle.member_set.specs.declared.members.Member.{Member}
-use Rattle.member_set.specs.declared.members.Built.{Built}
-use Rattle.member_set.specs.declared.members.Law.{Law}
-use Rattle.member_set.specs.Members.{IsOneway, HasStates, law_of}
+use Rattle.member_set.specs.Members.{IsOneway, law_of}
 use Rattle.model_types.specs.Lists.{Lists}
 use Rattle.model_types.specs.MemberCounts.{restraint_member_count, restraints_member_count}
 use Rattle.model_types.specs.declared.records.Restraint.{Restraint}
 use Rattle.model_types.specs.declared.records.RestraintKind.{RestraintKind}
-use Rattle.restraint_law.specs.States.{one_way_gap, law_past, states_past, kind_law, state_count_of, state_numbers}
+use Rattle.restraint_law.specs.States.{one_way_gap, law_past, states_past, state_count_of, state_numbers}
 use Rattle.structure.specs.Elements.{element_member_count}
-use Rattle.structure.specs.Laws.{SuitModel, StructuresHaveStates}
+use Rattle.structure.specs.Laws.{StructuresHaveStates}
 use Rattle.structure.specs.Restraints.{restraint_at, first_of_restraint, unilateral_of}
-use Rattle.structure.specs.Structure.{model_members, IsStructureOf}
+use Rattle.structure.specs.Structure.{model_members}
 use Rattle.structure.proofs.CountLaw.{models_have_their_members}
 use Rattle.structure.proofs.RestraintLaw.{first_more}
 use Rattle.structure.proofs.Runs.{IsRun, joined, joined-has, joined-from, joined-run, replicate-run, run-within}

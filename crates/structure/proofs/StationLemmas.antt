@@ -1,6 +1,6 @@
 -- An element that has members has unit vectors, and its ends are stations.
 use Rattle.std.proofs.Common.{◌≡◌, ℕ, zero, suc, ◌+◌, ◌*◌, ◌<◌, ◌≤◌, Bool, true, false, ◌++◌, List, [], ◌∷◌, length, get_or, All, refl, sym, subst, ap, ap₂, ◌∙◌, add-one, arith, ℤ, Option, Some, slice_get, Result, Ok, Err}
-use Rattle.std.specs.Prelude.{IsOk}
+use Rattle.std.specs.Prelude.{IsOk, IfSome, None, ◌==◌}
 use Rattle.std.proofs.lemmas.List.{get_or_read}
 use Rattle.std.proofs.lemmas.List.Elements.{All-from_recursion}
 use Rattle.std.specs.List.{flat_map, slice_index_or}
@@ -42,15 +42,19 @@ use Rattle.bend_element.specs.Vectors.{bend_vectors_of, vectors_in, AreWithinHal
 use Rattle.bend_element.specs.declared.between.Curve.{Curve}
 use Rattle.bend_element.specs.declared.frame.Frame.{Frame}
 use Rattle.bend_element.specs.declared.vectors.BendVectors.{BendVectors}
-use Rattle.structure.specs.Elements.{members_along, members_of_element, element_at, no_element, no_section, from_of, to_of, section_of, material_of, member_count_below}
-use Rattle.structure.specs.Stations.{straight_vectors, vectors_of_bend, vectors_along, vectors_of_element, found_vectors, station_with, station_of, HoldsTangent, HoldsBendEnd, HoldsVectorsAlong, HoldsVectors}
+use Rattle.structure.specs.Elements.{members_along, members_of_element, element_at, no_element, no_section, node_at, from_of, to_of, section_of, material_of, member_count_below}
+use Rattle.structure.specs.Stations.{straight_vectors, vectors_of_bend, vectors_along, vectors_of_element, found_vectors, station_with, station_of, normal_at, HoldsAcross, HoldsTangent, HoldsBendEnd, HoldsVectorsAlong, HoldsVectors}
 use Rattle.structure.specs.declared.vectors.EndVectors.{EndVectors}
 use Rattle.restraint_law.specs.Restraints.{restraint_members}
 use Rattle.structure.specs.Structure.{element_members, model_members}
-use Rattle.structure.proofs.MemberLemmas.{at_number, shape-few}
+use Rattle.structure.proofs.MemberLemmas.{shape-few}
 use Rattle.structure.proofs.LengthLemmas.{exact_length}
 use Rattle.structure.proofs.PlacedLaw.{placed}
 use Rattle.structure.proofs.StiffLaw.{then_members-ok}
+use Rattle.structure.proofs.TeeLemmas.{found_holds}
+use Rattle.structure.specs.Tees.{HasNormal, HoldsTeeNormal, found_vector, normal_across, tee_at, tee_normal}
+use Rattle.std.specs.Option.{option_or}
+use Rattle.model_types.specs.declared.records.Tee.{Tee}
 
 -- ---- results
 
@@ -264,32 +268,74 @@ bend_holds m e a b r angle x y z s shape from to holds =
 abbrev pub with_normal : BendVectors → List Ends → EndVectors
 with_normal v normal = record { from = v.from; to = v.to; normal = Some normal }
 
+-- ---- across a tee
+
+-- where there is a tee, its vector is there and holds the exact one
+across_tee : (m : Lists) (t : Option Tee) → IfSome t (HasNormal m) → HoldsAcross Straight m t (normal_across m t)
+across_tee m None has = refl
+across_tee m (Some t) has = subst (λ (r : Result (List Ends) IvFault). HoldsTeeNormal (tee_normal m t) (found_vector r)) (sym has.found) has.holds
+
+none_of_straight : (from to : Node) (v : EndVectors) → vectors_along Straight from to ≡ Ok v → v.normal ≡ None
+none_of_straight from to v is =
+    let l = next_value (length_of (parts_of (way_of from to))) _ v is in
+    let t = next_value (tangent_of (way_of from to) l.0) _ v l.2 in
+    let same : v ≡ straight_vectors t.0 = cc (t.2) in
+    ap (λ (x : EndVectors). x.normal) same
+
+across_end : (s : Shape) (m : Lists) (from to : Node) (v : EndVectors) (t : Option Tee) → vectors_along s from to ≡ Ok v → IfSome t (HasNormal m) →
+    HoldsAcross s m t (option_or v.normal (normal_across m t))
+across_end Straight m from to v t is has =
+    subst (λ (own : Option (List Ends)). HoldsAcross Straight m t (option_or own (normal_across m t))) (sym (none_of_straight from to v is)) (across_tee m t has)
+across_end (Bend r angle x y z) m from to v t is has = tt
+
+holds_station : (m : Lists) (n : ℕ) (end : Bool) (v : EndVectors) → vectors_of_element m (element_at m n) ≡ Ok v → All (HasNormal m) m.tees →
+    HoldsVectorsAlong (element_at m n).shape (from_of m (element_at m n)) (to_of m (element_at m n)) (station_with m n end v) → HoldsVectors m (station_with m n end v)
+holds_station m n end v value tees along =
+    let e = element_at m n in
+    let node = node_at e end in
+    record { along = along; across = across_end e.shape m (from_of m e) (to_of m e) v (tee_at m node) value (found_holds (HasNormal m) (λ t. t.node.0 == node) m.tees tees) }
+
 -- ---- the stations at the ends of an element
 
-abbrev station : ℕ → Bool → List Ends → Option (List Ends) → ℕ → ℕ → Station
+abbrev pub station : ℕ → Bool → List Ends → Option (List Ends) → ℕ → ℕ → Station
 station n end t normal first count = record { element = n; end = end; tangent = t; normal = normal; first = first; count = count }
 
-abbrev both_ends : ℕ → EndVectors → ℕ → ℕ → List Station
-both_ends n v first count = station n false v.from v.normal first count ∷ station n true v.to v.normal first count ∷ []
+-- the stations at the ends of an element, by its unit vectors and those across the tees of its nodes
+pub record AreEnds (m : Lists) (n : ℕ) (e : Element) (v : EndVectors) (stations : List Station) : Type 0 where
+  pub first : ℕ
+  pub count : ℕ
+  pub across_from : Option (List Ends)
+  pub across_to : Option (List Ends)
+  pub is : stations ≡ (station n false v.from across_from first count ∷ station n true v.to across_to first count ∷ [])
+  pub at : e ≡ element_at m n
+  pub value : vectors_of_element m e ≡ Ok v
+  pub before : first ≡ member_count_below m n
+  pub own : count ≡ shape_member_count e.shape
+  pub from : across_from ≡ normal_at m v.normal e.from.0
+  pub to : across_to ≡ normal_at m v.normal e.to.0
 
-ends_with : (m : Lists) (n first count : ℕ) (v : EndVectors) (e : Element) → e ≡ element_at m n → first ≡ member_count_below m n → count ≡ shape_member_count e.shape →
-    both_ends n v first count ≡ (station_with m n false v ∷ station_with m n true v ∷ [])
-ends_with m n first count v e at before own =
-    ap (λ (k : ℕ). both_ends n v k count) before
-    ∙ ap (λ (k : ℕ). both_ends n v (member_count_below m n) k) (own ∙ ap (λ (x : Element). shape_member_count x.shape) at)
+abbrev both_with : Lists → ℕ → EndVectors → List Station
+both_with m n v = station_with m n false v ∷ station_with m n true v ∷ []
 
-pub ends_are : (m : Lists) (n first count : ℕ) (v : EndVectors) (e : Element) → e ≡ element_at m n → vectors_of_element m e ≡ Ok v →
-    first ≡ member_count_below m n → count ≡ shape_member_count e.shape → both_ends n v first count ≡ (station_of m n false ∷ station_of m n true ∷ [])
-ends_are m n first count v e at value before own =
-    let found : v ≡ found_vectors (vectors_of_element m (element_at m n)) = ap found_vectors (sym value) ∙ ap (λ (x : Element). found_vectors (vectors_of_element m x)) at in
-    ends_with m n first count v e at before own ∙ ap (λ (x : EndVectors). station_with m n false x ∷ station_with m n true x ∷ []) found
+ends_with : (m : Lists) (n : ℕ) (e : Element) (v : EndVectors) (stations : List Station) → AreEnds m n e v stations → stations ≡ both_with m n v
+ends_with m n e v stations are =
+    let counted : are.count ≡ shape_member_count (element_at m n).shape = are.own ∙ ap (λ (x : Element). shape_member_count x.shape) are.at in
+    let from : are.across_from ≡ normal_at m v.normal (element_at m n).from.0 = are.from ∙ ap (λ (x : Element). normal_at m v.normal x.from.0) are.at in
+    let to : are.across_to ≡ normal_at m v.normal (element_at m n).to.0 = are.to ∙ ap (λ (x : Element). normal_at m v.normal x.to.0) are.at in
+    rw (are.is, are.before, counted, from, to) refl
 
-pub ends_hold : (m : Lists) (n first count : ℕ) (v : EndVectors) (e : Element) → e ≡ element_at m n → first ≡ member_count_below m n → count ≡ shape_member_count e.shape →
-    ((n : ℕ) (end : Bool) → HoldsVectorsAlong e.shape (from_of m e) (to_of m e) (station_with m n end v)) → All (HoldsVectors m) (both_ends n v first count)
-ends_hold m n first count v e at before own holds =
-    let here = rw at at holds in
-    subst (All (HoldsVectors m)) (sym (ends_with m n first count v e at before own))
-    (All-from_recursion (HoldsVectors m) (station_with m n false v ∷ station_with m n true v ∷ []) (here n false, (here n true, tt)))
+pub ends_are : (m : Lists) (n : ℕ) (e : Element) (v : EndVectors) (stations : List Station) → AreEnds m n e v stations → stations ≡ (station_of m n false ∷ station_of m n true ∷ [])
+ends_are m n e v stations are =
+    let found : v ≡ found_vectors (vectors_of_element m (element_at m n)) = ap found_vectors (sym are.value) ∙ ap (λ (x : Element). found_vectors (vectors_of_element m x)) are.at in
+    ends_with m n e v stations are ∙ ap (both_with m n) found
+
+pub ends_hold : (m : Lists) (n : ℕ) (e : Element) (v : EndVectors) (stations : List Station) → AreEnds m n e v stations → All (HasNormal m) m.tees →
+    ((n : ℕ) (end : Bool) → HoldsVectorsAlong e.shape (from_of m e) (to_of m e) (station_with m n end v)) → All (HoldsVectors m) stations
+ends_hold m n e v stations are tees holds =
+    let along = rw are.at at holds in
+    let value : vectors_of_element m (element_at m n) ≡ Ok v = subst (λ (x : Element). vectors_of_element m x ≡ Ok v) are.at are.value in
+    let both = λ (end : Bool). holds_station m n end v value tees (along n end) in
+    subst (All (HoldsVectors m)) (sym (ends_with m n e v stations are)) (All-from_recursion (HoldsVectors m) (both_with m n v) (both false, (both true, tt)))
 
 -- ---- a model
 

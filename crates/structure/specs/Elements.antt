@@ -1,5 +1,5 @@
 -- The members of a model's elements.
-use Rattle.std.specs.Prelude.{ℕ, zero, suc, ◌+◌, [], pos, List, length, Result}
+use Rattle.std.specs.Prelude.{ℕ, zero, suc, ◌+◌, Bool, false, true, [], pos, List, length, Result}
 use Rattle.std.specs.List.{slice_index_or}
 use Rattle.flex_interval.specs.declared.fault.Wide.{Wide}
 use Rattle.member_set.specs.declared.members.Member.{Member}
@@ -45,6 +45,11 @@ section_of m e = slice_index_or m.sections e.section.0 no_section
 
 abbrev pub material_of : Lists → Section → Material
 material_of m s = slice_index_or m.materials s.material.0 no_material
+
+-- the node at an end of an element, `to` where `at_to`
+abbrev pub node_at : Element → Bool → ℕ
+node_at e false = e.from.0
+node_at e true = e.to.0
 
 -- the members of an element of a shape: the eight of a straight, or the six of a bend
 abbrev pub members_along : Shape → Element → Node → Node → Section → Material → Result (List Member) Wide

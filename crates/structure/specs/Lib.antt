@@ -7,3 +7,4 @@ pub mod Sound
 pub mod Touching
 pub mod Numbers
 pub mod Laws
+pub mod Tees

@@ -1,6 +1,7 @@
 -- The stations of a model: the two ends of each of its elements.
-use Rattle.std.specs.Prelude.{ℕ, Bool, false, true, List, [], ◌∷◌, length, All, Option, None, Some, Result, Ok, Err}
+use Rattle.std.specs.Prelude.{◌≡◌, ℕ, Bool, false, true, List, [], ◌∷◌, length, All, Option, None, Some, Result, Ok, Err}
 use Rattle.std.specs.List.{flat_map, range_with_len}
+use Rattle.std.specs.Option.{option_or}
 use Rattle.flex_interval.specs.Ends.{Ends}
 use Rattle.flex_interval.specs.Fraction.{Fraction}
 use Rattle.flex_interval.specs.declared.fault.IvFault.{IvFault}
@@ -18,13 +19,15 @@ use Rattle.model_types.specs.declared.records.Element.{Element}
 use Rattle.model_types.specs.declared.records.Node.{Node}
 use Rattle.model_types.specs.declared.records.Shape.{Shape}
 use Rattle.model_types.specs.declared.records.Shape.TheVariants.{Straight, Bend}
+use Rattle.model_types.specs.declared.records.Tee.{Tee}
 use Rattle.bend_element.specs.Between.{curve_from, IsPlaceWithin}
 use Rattle.bend_element.specs.ExactBend.{ExactFrame}
 use Rattle.bend_element.specs.Normal.{normal_to, normal_parts, IsNormalLength}
 use Rattle.bend_element.specs.Vectors.{bend_vectors_of, end_tangent, AreWithinHalf, place_by}
 use Rattle.bend_element.specs.declared.between.Curve.{Curve}
 use Rattle.bend_element.specs.declared.vectors.BendVectors.{BendVectors}
-use Rattle.structure.specs.Elements.{element_at, from_of, to_of, member_count_below}
+use Rattle.structure.specs.Elements.{element_at, from_of, to_of, node_at, member_count_below}
+use Rattle.structure.specs.Tees.{HoldsTeeNormal, normal_across, tee_at, tee_normal}
 use Rattle.structure.specs.declared.vectors.EndVectors.{EndVectors}
 
 -- ---- rounded
@@ -55,6 +58,10 @@ abbrev pub tangent_at : EndVectors → Bool → List Ends
 tangent_at v false = v.from
 tangent_at v true = v.to
 
+-- the unit vector across at an end: the bend's own, or that of the tee at its node
+abbrev pub normal_at : Lists → Option (List Ends) → ℕ → Option (List Ends)
+normal_at m own node = option_or own (normal_across m (tee_at m node))
+
 -- the station at an end of an element with these unit vectors
 abbrev pub station_with : Lists → ℕ → Bool → EndVectors → Station
 station_with m n end v =
@@ -62,12 +69,12 @@ station_with m n end v =
       element = n;
       end = end;
       tangent = tangent_at v end;
-      normal = v.normal;
+      normal = normal_at m v.normal (node_at (element_at m n) end);
       first = member_count_below m n;
       count = shape_member_count (element_at m n).shape;
     }
 
--- the station of an element's end: only a bend has a normal
+-- the station of an element's end
 abbrev pub station_of : Lists → ℕ → Bool → Station
 station_of m n end = station_with m n end (found_vectors (vectors_of_element m (element_at m n)))
 
@@ -83,10 +90,14 @@ pub record HoldsTangent (way : Way) (s : Station) : Type 0 where
   pub along : (l : Fraction) → IsLengthWithin (parts_of way) l → EnclosesVector s.tangent (tangent (parts_of way) l)
   pub exact : (l : Fraction) → IsLengthOf (parts_of way) l → IsLengthWithin (parts_of way) l
 
+-- a normal is there, of which P holds
+abbrev pub HasVector : Option (List Ends) → (List Ends → Type 0) → Type 0
+HasVector (Some normal) P = P normal
+HasVector None P = ⊥
+
 -- a normal is there, and holds this one
 abbrev pub HoldsNormal : Option (List Ends) → Exact → Type 0
-HoldsNormal (Some normal) exact = EnclosesVector normal exact
-HoldsNormal None exact = ⊥
+HoldsNormal normal exact = HasVector normal (λ v. EnclosesVector v exact)
 
 abbrev pub end_of : Bool → End
 end_of false = from_end
@@ -106,8 +117,16 @@ abbrev pub HoldsVectorsAlong : Shape → Node → Node → Station → Type 0
 HoldsVectorsAlong Straight from to s = HoldsTangent (way_of from to) s
 HoldsVectorsAlong (Bend r angle x y z) from to s = HoldsBendEnd (way_of from to) (curve_from from r angle x y z) s
 
-abbrev pub HoldsVectors : Lists → Station → Type 0
-HoldsVectors m s = HoldsVectorsAlong (element_at m s.element).shape (from_of m (element_at m s.element)) (to_of m (element_at m s.element)) s
+-- a straight's end has a normal where there is a tee, and that holds the exact unit vector across it
+abbrev pub HoldsAcross : Shape → Lists → Option Tee → Option (List Ends) → Type 0
+HoldsAcross Straight m None normal = normal ≡ None
+HoldsAcross Straight m (Some t) normal = HasVector normal (HoldsTeeNormal (tee_normal m t))
+HoldsAcross (Bend r angle x y z) m t normal = Unit {0}
+
+-- a station holds the exact unit vectors of its element's end
+pub record HoldsVectors (m : Lists) (s : Station) : Type 0 where
+  pub along : HoldsVectorsAlong (element_at m s.element).shape (from_of m (element_at m s.element)) (to_of m (element_at m s.element)) s
+  pub across : HoldsAcross (element_at m s.element).shape m (tee_at m (node_at (element_at m s.element) s.end)) s.normal
 
 -- the same of each station of a structure
 abbrev pub HoldTangents : Lists → Built → Type 0

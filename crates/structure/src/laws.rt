@@ -1,4 +1,4 @@
-ghost use Rattle.structure.specs.Laws.{LengthsExist, StatesAreCounted, StatesAreInOrder, StructuresHaveStates};
+ghost use Rattle.structure.specs.Laws.{LengthsExist, MembersLeadWithin, StatesAreCounted, StatesAreInOrder, StructuresHaveStates};
 ghost use Rattle.structure.specs.Numbers.{StructuresHoldNumbers};
 ghost use Rattle.structure.specs.Structure.{ModelsHaveTheirMembers, StructuresAreStiff};
 
@@ -32,4 +32,9 @@ pub fn states_of_restraints()
 /// Each way has a length within the enclosure of its length.
 pub fn lengths_exist()
     ensures { LengthsExist }
+{}
+
+/// A member of a structure touches one node alone, or leads along an element.
+pub fn members_lead_within()
+    ensures { MembersLeadWithin }
 {}

@@ -1,8 +1,9 @@
-use Rattle.std.proofs.Common.{rules, ◌≡◌, arith, FitsSigned, to_z, of_z, to_z-of_z}
+use Rattle.std.proofs.Common.{rules, ◌≡◌, refl, arith, FitsSigned, to_z, of_z, to_z-of_z}
 use Rattle.std.proofs.lemmas.Int.{ints}
 use Rattle.std.specs.Int.{w128, w64}
 use Rattle.flex_interval.specs.Fraction.{Within}
 use Rattle.section_data.specs.Tube.{exact_area, exact_modulus, difference_of_squares, square_sum}
+use Rattle.section_data.specs.Values.{values_of}
 use Rattle.section_data.proofs.section.Goals as goal
 
 x_is : (c : goal.After-weight) → to_z w128 (of_z w128 c.square_difference-x.result) ≡ difference_of_squares c.args.s.now c.args.reduced
@@ -49,3 +50,10 @@ returns-clause-encloses c = λ pi within.
       modulus = (rw (y_is c, d_is c) at c.modulus.ensures.within) _ area;
       weight = c.weight.ensures.within _ (c.full_area.ensures.within pi within);
     }
+
+pub returns-clause-values : goal.returns-clause-values
+unfolding values_of
+returns-clause-values c =
+    let area = rw (x_is c) at c.area-area.ensures.value in
+    let modulus = rw (y_is c, d_is c) at c.modulus.ensures.value in
+    rw (x_is c, y_is c, area, modulus, c.full_area.ensures.value, c.weight.ensures.value) refl

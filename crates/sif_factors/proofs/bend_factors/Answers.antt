@@ -31,6 +31,6 @@ returns-clause-out_of_plane c =
 pub returns-clause-sizes : goal.returns-clause-sizes
 returns-clause-sizes c = record {
   k = c.bend_flexibility.ensures.size;
-  ii = record { low = c.index.ensures.lo; high = omega (arith, ints, c.index.ensures.hi) };
-  io = record { low = c.index-2.ensures.lo; high = omega (arith, ints, c.index-2.ensures.hi) };
+  ii = record { low = omega (arith, ints, c.index.ensures.from_one); high = omega (arith, ints, c.index.ensures.hi) };
+  io = record { low = omega (arith, ints, c.index-2.ensures.from_one); high = omega (arith, ints, c.index-2.ensures.hi) };
 }

@@ -10,5 +10,5 @@ pub returns-clause-sizes : goal.returns-clause-sizes
 returns-clause-sizes c = record {
   k = rw c.point.ensures.value (record { low = omega (arith, ints); high = omega (arith, ints) });
   ii = c.in_plane.ensures.size;
-  io = record { low = c.index-io.ensures.lo; high = omega (arith, ints, c.index-io.ensures.hi) };
+  io = record { low = omega (arith, ints, c.index-io.ensures.from_one); high = omega (arith, ints, c.index-io.ensures.hi) };
 }

@@ -23,7 +23,9 @@ pub returns-clause-value : goal.returns-clause-value
 returns-clause-value c = rw (sum c, c.square.ensures.value, c.square-2.ensures.value, to_z-of_z c.ranges.outside, to_z-of_z c.ranges.inside) refl
 
 pub returns-clause-low : goal.returns-clause-low
-returns-clause-low c = rw (sum c) (omega (arith, int_sums, c.square.ensures.low, c.square-2.ensures.low))
+returns-clause-low c =
+    let own = rw (to_z-of_z c.ranges.outside) at c.square.ensures.value in
+    rw (sum c) (omega (arith, int_sums, own, c.square-2.ensures.low))
 
 pub returns-clause-high : goal.returns-clause-high
 returns-clause-high c = rw (sum c) (omega (arith, int_sums, c.square.ensures.high, c.square-2.ensures.high))

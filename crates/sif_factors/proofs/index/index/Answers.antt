@@ -20,9 +20,9 @@ returns-clause-encloses c = λ square within.
     (index_encloses c.share-cube.result c.small_cbrt-root.result c.args.n c.args.m square c.small_cbrt-root.ensures.encloses
     ((rw (to_z-of_z c.ranges.n, to_z-of_z c.ranges.m) at c.share-cube.ensures.within) _ within))
 
-pub returns-clause-lo : goal.returns-clause-lo
+pub returns-clause-from_one : goal.returns-clause-from_one
 unfolding max_of
-returns-clause-lo c = rw (c.max.ensures.value, c.point.ensures.value) (omega (arith, int_sums, clamps))
+returns-clause-from_one c = rw (c.max.ensures.value, c.point.ensures.value) (omega (arith, int_sums, clamps))
 
 pub returns-clause-hi : goal.returns-clause-hi
 unfolding max_of
