@@ -199,7 +199,7 @@ answers_by_base m p shared is =
 pub no_answers : (m : Lists) (p : Plan) → length m.cases ≡ 0 → answers_of m p ≡ []
 no_answers m p none = ap (λ (n : ℕ). listed n (answer_of m p)) none
 
-all_same : {X : Type 0} (n : ℕ) (x : X) → replicate n x ≡ listed n (λ _. x)
+pub all_same : {X : Type 0} (n : ℕ) (x : X) → replicate n x ≡ listed n (λ _. x)
 all_same n x = listed-is x (replicate n x) n (λ _. x) (length-replicate n x) (λ k below. get_or-replicate n k x x below)
 
 pub answers_by_reason : (m : Lists) (p : Plan) (cause : Cause) → base_of m p ≡ Err (because cause) →

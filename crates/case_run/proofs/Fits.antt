@@ -41,7 +41,8 @@ use Rattle.structure.specs.Structure.{Members, ModelsHaveTheirMembers, element_m
 use Rattle.case_run.specs.Reasons.{Reason, element_reason, matrix_reason, breakdown_reason, margin_reason, load_reason, bounds_reason, factor_at}
 use Rattle.case_run.specs.Answers.{margin_at, margin_of, Base, base_of, unbounded_reason, enclosure_in, answer_with, answer_of, answers_of}
 use Rattle.case_run.specs.Causes.{Plan}
-use Rattle.case_run.specs.Certified.{bounds_of, last_place, shift_of}
+use Rattle.case_run.specs.Certified.{last_place, shift_of}
+use Rattle.model_types.specs.Fits.{bounds_of}
 use Rattle.case_run.specs.Contacts.{contacts_of, no_contact, starting_states}
 use Rattle.load_vectors.specs.Laws.{laws_of}
 use Rattle.case_run.specs.Trials.{Trial, trial, trial_in, candidate_under, factor_under, violated_by, solve_reason, search_of}
@@ -317,12 +318,12 @@ settled_value s bounds e is = unless_both (reach_fails s bounds.u) (first_betwee
     unless_both false (Some k) x e is = absurd (cc)
 
 -- how many bounds and states there are
-record HasSizes (s : System) (e : Enclosure) : Type 0 where
-  displacements : length e.u ≡ row_count s.structure
-  forces : length e.force ≡ length s.structure.members
-  states : length e.closed ≡ length s.structure.unilateral
+pub record HasSizes (s : System) (e : Enclosure) : Type 0 where
+  pub displacements : length e.u ≡ row_count s.structure
+  pub forces : length e.force ≡ length s.structure.members
+  pub states : length e.closed ≡ length s.structure.unilateral
 
-sizes : (s : System) (u : List ℤ) (lambda : ℤ) (e : Enclosure) → states_around s u lambda ≡ Ok e → HasSizes s e
+pub sizes : (s : System) (u : List ℤ) (lambda : ℤ) (e : Enclosure) → states_around s u lambda ≡ Ok e → HasSizes s e
 sizes s u lambda e is =
     let bounds = value_before (named (λ _. too_wide) (bounds_around s u lambda)) (settled s) e is in
     let around = value_named (λ _. too_wide) (bounds_around s u lambda) bounds.0 bounds.1 in

@@ -143,16 +143,23 @@ loads_broken m case row first =
 
 -- ---- the matrices
 
--- what a member at a row's node gives to a column of a node past the structure's is exactly 0
+-- what a member gives to a column of a node that it does not touch is exactly 0
+pub apart_term : (b : Built) (row col t : ℕ) → (Touches (member_of b (get_or (members_at b (row / 6)) t 0)) (col / 6) → ⊥) → entry_term b row col t ≡ Ok nothing
+apart_term b row col t apart =
+    let x = member_of b (get_or (members_at b (row / 6)) t 0) in
+    let untouched : touches x (col / 6) ≡ false = or_from _ _ (ne_eqb x.n1 (col / 6) (λ same. apart (inl same))) (ne_eqb x.n2 (col / 6) (λ same. apart (inr same))) in
+    ap (λ (t : Bool). if t then and_then (mul_of x.kappa (shape_at x row) 56) (λ e. mul_of e (shape_at x col) 56) else Ok nothing) untouched
+
+-- no member touches a node past the structure's
+not_past : (b : Built) (k node : ℕ) → IsBuilt b → k < length b.members → built_nodes b ≤ node → Touches (member_of b k) node → ⊥
+not_past b k node built inside past (inl first) = omega (arith, first, built.first_node k inside)
+not_past b k node built inside past (inr second) = omega (arith, second, built.second_node k inside)
+
 no_term : (b : Built) (row col t : ℕ) → IsBuilt b → row < row_count b → row_count b ≤ col → t < length (members_at b (row / 6)) → entry_term b row col t ≡ Ok nothing
 no_term b row col t built row_in col_past listed =
     let k = get_or (members_at b (row / 6)) t 0 in
     let known = (built.touching (row / 6) k (omega arith)).0 (Contains-get_or (members_at b (row / 6)) t 0 listed) in
-    let first = built.first_node k known.0 in
-    let second = built.second_node k known.0 in
-    let apart : touches (member_of b k) (col / 6) ≡ false =
-    or_from _ _ (ne_eqb (member_of b k).n1 (col / 6) (λ same. omega (arith, same, first))) (ne_eqb (member_of b k).n2 (col / 6) (λ same. omega (arith, same, second))) in
-    ap (λ (x : Bool). if x then and_then (mul_of (member_of b k).kappa (shape_at (member_of b k) row) 56) (λ e. mul_of e (shape_at (member_of b k) col) 56) else Ok nothing) apart
+    apart_term b row col t (not_past b k (col / 6) built known.0 (omega arith))
 
 nothing_more : add_of nothing nothing ≡ Ok nothing
 unfolding add_of
@@ -162,7 +169,7 @@ all_nothing : (term : ℕ → Outcome) (n : ℕ) → ((t : ℕ) → t < n → te
 all_nothing term zero each = refl
 all_nothing term (suc n) each = rw (all_nothing term n (λ t below. each t (omega arith)), each n (omega arith)) nothing_more
 
-middle_nothing : middle_of nothing ≡ pos 0
+pub middle_nothing : middle_of nothing ≡ pos 0
 unfolding floor_of
 middle_nothing = refl
 
@@ -172,17 +179,19 @@ radius_nothing = rw middle_nothing refl
 limited_nothing : limited_entry nothing ≡ Ok nothing
 limited_nothing = rw middle_nothing refl
 
-past_upper : (b : Built) (row col : ℕ) → IsBuilt b → row_count b ≤ col → upper_entry b row col ≡ Ok nothing
+-- the entry to which no member gives anything
+pub upper_nothing : (b : Built) (row col : ℕ) → ((t : ℕ) → t < length (members_at b (row / 6)) → entry_term b row col t ≡ Ok nothing) → upper_entry b row col ≡ Ok nothing
 unfolding entry_sum
+upper_nothing b row col none =
+    ap (λ (o : Outcome). and_then o limited_entry) (all_nothing (entry_term b row col) (length (members_at b (row / 6))) none) ∙ limited_nothing
+
+past_upper : (b : Built) (row col : ℕ) → IsBuilt b → row_count b ≤ col → upper_entry b row col ≡ Ok nothing
 past_upper b row col built past =
-    let sum : in_turn add_of nothing (entry_term b row col) (length (members_at b (row / 6))) ≡ Ok nothing =
-    elim (cases_lt row (row_count b)) [
-      | inl inside ↦ all_nothing (entry_term b row col) (length (members_at b (row / 6))) (λ t listed. no_term b row col t built inside past listed)
-      | inr outside ↦
-          let none : members_at b (row / 6) ≡ [] = get_or_past b.at (row / 6) [] (omega arith) in
-          ap (λ (xs : List ℕ). in_turn add_of nothing (entry_term b row col) (length xs)) none
-    ] in
-    ap (λ (o : Outcome). and_then o limited_entry) sum ∙ limited_nothing
+    upper_nothing b row col
+    (λ t listed. elim (cases_lt row (row_count b)) [
+      | inl inside ↦ no_term b row col t built inside past listed
+      | inr outside ↦ absurd (omega (arith, listed, ap (λ (xs : List ℕ). length xs) (get_or_past b.at (row / 6) [] (omega arith))))
+    ])
 
 past_stiffness : (b : Built) (i j : ℕ) → IsBuilt b → (row_count b ≤ i) ⊎ (row_count b ≤ j) → stiffness_at b i j ≡ Ok nothing
 past_stiffness b i j built past =

@@ -13,7 +13,7 @@ use Rattle.flex_interval.specs.declared.fault.Wide.{Wide}
 use Rattle.member_set.specs.declared.members.Built.{Built}
 use Rattle.member_set.specs.Members.{System, IsBuilt, row_count, built_nodes}
 use Rattle.sym_blocks.specs.Matrix.{Matrix, entry, IsSymmetricByBlocks}
-use Rattle.assembly.specs.Stiffness.{AreAssembled, NamesFirstWide, matrices_of}
+use Rattle.assembly.specs.Stiffness.{AreAssembled, NamesFirstWide, matrices_of, middle}
 use Rattle.assembly.specs.declared.fault.AssembleFault.{AssembleFault}
 use Rattle.solve.specs.Refinement.{Problem, problem, LeadTo, IsTooWide}
 use Rattle.solve.specs.Turns.{turns_of, unless_wide}
@@ -25,7 +25,7 @@ use Rattle.case_run.specs.Faults.{assemble_fault, reason_told, solve_trial_fault
 use Rattle.case_run.specs.Trials.{Trial, trial, trial_in, candidate_under, factor_under, solve_reason, violated_by, violates, state_at, past_at}
 use Rattle.case_run.specs.Steps.{IsFactorable, IsRadiusMatrix}
 use Rattle.case_run.proofs.Searching.{any_none, any_at, listed-is}
-use Rattle.case_run.proofs.GivenStructure.{matrices_given}
+use Rattle.case_run.proofs.GivenStructure.{matrices_given, middles_are}
 use Rattle.case_run.proofs.Chained.{tells_matrix}
 use Rattle.case_run.proofs.GivenTurns.{IsOrdered, turns_given, turns_broken}
 use Rattle.case_run.proofs.Matrices.{middles_small, radii_below, radii_not_negative}
@@ -47,6 +47,11 @@ pub matrices_told : (b : Built) (r : Assembled) → IsBuilt b → IfOk r (λ m. 
     Gives (λ m. (entry m.0, entry m.1)) (λ f. reason_told (assemble_fault f)) (named matrix_reason (matrices_of b)) r
 matrices_told b (Ok m) built are kept names = ap (named matrix_reason) (matrices_given b m.0 m.1 built kept.0 kept.1 are)
 matrices_told b (Err fault) built are kept names = tells_matrix b fault names
+
+pub matrices_are : (b : Built) (r : Assembled) → IsBuilt b → IfOk r (λ m. AreAssembled b m.0 m.1) →
+    IfOk r (λ m. IsSymmetricByBlocks m.0 × IsSymmetricByBlocks m.1) → IfOk r (λ m. entry m.0 ≡ middle b)
+matrices_are b (Ok m) built are kept = middles_are b m.0 m.1 built kept.0 are
+matrices_are b (Err fault) built are kept = tt
 
 pub matrices_factorable : (b : Built) (r : Assembled) → IfOk r (λ m. AreAssembled b m.0 m.1) →
     IfOk r (λ m. IsSymmetricByBlocks m.0 × IsSymmetricByBlocks m.1) → IfOk r (λ m. IsFactorable (built_nodes b) m.0)

@@ -16,3 +16,5 @@ pub mod Settled
 pub mod ContactLemmas
 pub mod GivenSearch
 pub mod GivenTrial
+pub mod OnTree
+pub mod ForcesLaw

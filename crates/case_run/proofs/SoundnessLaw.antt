@@ -39,7 +39,8 @@ use Rattle.case_run.specs.Trials.{trial_in, search_of}
 use Rattle.case_run.specs.Certified.{shift_of, last_place}
 use Rattle.case_run.specs.Reasons.{Reason, element_reason, matrix_reason, margin_reason, load_reason, factor_at}
 use Rattle.case_run.specs.Answers.{margin_at, margin_of, Base, base, base_of, unbounded_reason, bounds_in, enclosure_in, answer_with, answer_of, answers_of}
-use Rattle.case_run.specs.Equilibria.{OfEquilibria, HoldsAlways}
+use Rattle.load_vectors.specs.Equilibria.{OfEquilibria}
+use Rattle.case_run.specs.Equilibria.{HoldsAlways}
 use Rattle.case_run.specs.Soundness.{AnswerHolds, AnswersHold}
 use Rattle.case_run.proofs.Definite.{definite_stiffness}
 use Rattle.case_run.proofs.GivenStructure.{structure_given, loads_given}
@@ -230,7 +231,7 @@ base_definite known m p shared laws s some same is structure states real =
           (λ i j i_in j_in. rw (margin.middles, margin.radii) (near i j i_in j_in)),
     )
 
-certified_holds : Laws → (m : Lists) (p : Plan) (case : ℕ) (e : Enclosure) → IsModel m → case < length m.cases → length p.order ≡ length m.nodes →
+pub certified_holds : Laws → (m : Lists) (p : Plan) (case : ℕ) (e : Enclosure) → IsModel m → case < length m.cases → length p.order ≡ length m.nodes →
     and_then (base_of m p) (enclosure_in m p case) ≡ Ok e → OfEquilibria m case (HoldsIn m e)
 certified_holds known m p case e model in_range same given = λ b loads r exact structure loaded real balance.
     let chain = value_before (base_of m p) (enclosure_in m p case) e given in
@@ -266,7 +267,7 @@ answer_holds known m p case model in_range same =
     (λ e given. certified_holds known m p case e model in_range same given)
 
 -- what stands in a list that was made place by place
-stands_at : {X : Type 0} (n : ℕ) (f : ℕ → X) (k : ℕ) (x : X) → slice_get (listed n f) k ≡ Some x → f k ≡ x
+pub stands_at : {X : Type 0} (n : ℕ) (f : ℕ → X) (k : ℕ) (x : X) → slice_get (listed n f) k ≡ Some x → f k ≡ x
 stands_at n f k x is =
     let inside : k < length (listed n f) = slice_get_within (listed n f) k x is in
     sym (get_or-map-range_with_len f 0 n k k x (omega (arith, inside, length-map-range_with_len f 0 n)) (omega arith)) ∙ get_or_from_slice_get (listed n f) k x x is

@@ -14,8 +14,10 @@ use Rattle.certificate.specs.Bounds.{EnclosesEquilibrium}
 use Rattle.case_run.specs.Answers.{answer_with}
 use Rattle.structure.specs.Elements.{element_member_count}
 use Rattle.structure.specs.Restraints.{unilateral_of}
-use Rattle.case_run.specs.Certified.{bounds_of}
-use Rattle.case_run.specs.Equilibria.{AreWithin, OfEquilibria, HoldsAlways, ends_of, ends_at}
+use Rattle.model_types.specs.Fits.{bounds_of}
+use Rattle.load_vectors.specs.Equilibria.{OfEquilibria}
+use Rattle.model_types.specs.Fits.{ends_of}
+use Rattle.case_run.specs.Equilibria.{AreWithin, HoldsAlways, ends_at}
 
 ends_at-map : (es : List Ends) (k : ℕ) → ends_at (map bounds_of es) k ≡ get_or es k nothing
 ends_at-map es k = ap ends_of (get_or-map bounds_of es k nothing)

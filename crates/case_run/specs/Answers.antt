@@ -17,7 +17,8 @@ use Rattle.certificate.specs.declared.bounds.Enclosure.{Enclosure}
 use Rattle.certificate.specs.Checker.{test_by, margin_by}
 use Rattle.certificate.specs.States.{Unbounded, too_wide, unsettled, states_around}
 use Rattle.case_run.specs.Causes.{Plan}
-use Rattle.case_run.specs.Certified.{shift_of, last_place, bounds_of}
+use Rattle.case_run.specs.Certified.{shift_of, last_place}
+use Rattle.model_types.specs.Fits.{bounds_of}
 use Rattle.case_run.specs.Contacts.{starting_states, state_cause}
 use Rattle.load_vectors.specs.Laws.{laws_of}
 use Rattle.case_run.specs.Reasons.{Reason, element_reason, matrix_reason, margin_reason, load_reason, bounds_reason, factor_at}

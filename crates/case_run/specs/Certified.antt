@@ -1,7 +1,5 @@
--- The shifts in the order in which they are tried, and how an answer tells of a margin that there isn't and of bounds.
+-- The shifts in the order in which they are tried, and how an answer tells of a margin that there isn't.
 use Rattle.std.specs.Prelude.{ℕ, ◌-◌, ◌*◌, ◌^◌, ℤ, pos}
-use Rattle.flex_interval.specs.Ends.{Ends}
-use Rattle.model_types.specs.declared.answers.Bounds.{Bounds}
 use Rattle.model_types.specs.declared.answers.Cause.{Cause}
 use Rattle.model_types.specs.declared.answers.Cause.TheVariants as causes
 use Rattle.case_run.specs.Causes.{at_row}
@@ -15,6 +13,3 @@ last_place = 17
 
 abbrev pub margin_cause : ℕ → Cause
 margin_cause = at_row (λ node freedom. causes.Margin (record { 0 = node }) freedom)
-
-abbrev pub bounds_of : Ends → Bounds
-bounds_of e = record { lo = e.lo; hi = e.hi }

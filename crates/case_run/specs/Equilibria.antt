@@ -2,9 +2,8 @@
 use Rattle.std.specs.Prelude.{ℕ, ◌+◌, ◌<◌, ⊤, Bool, false, List, length, slice_index, slice_index_or, slice_get, ◌≡◌, Some}
 use Rattle.flex_interval.specs.Ends.{Ends}
 use Rattle.flex_interval.specs.Fraction.{Within}
-use Rattle.member_set.specs.declared.members.Built.{Built}
-use Rattle.member_set.specs.Members.{nothing, system}
-use Rattle.member_set.specs.Realisation.{Realisation, IsRealisation, IsEquilibrium, IsInState, force_in, fraction, force_fraction}
+use Rattle.member_set.specs.Members.{nothing}
+use Rattle.member_set.specs.Realisation.{Realisation, IsInState, force_in, fraction, force_fraction}
 use Rattle.int_laws.specs.Matrices.{Vector}
 use Rattle.model_types.specs.Lists.{Lists}
 use Rattle.model_types.specs.declared.answers.Bounds.{Bounds}
@@ -12,13 +11,8 @@ use Rattle.model_types.specs.declared.answers.CaseAnswer.{CaseAnswer}
 use Rattle.model_types.specs.declared.answers.CaseAnswer.TheVariants.{Certified, Uncertified}
 use Rattle.structure.specs.Elements.{element_member_count}
 use Rattle.structure.specs.Restraints.{unilateral_of}
-use Rattle.structure.specs.Structure.{IsStructureOf}
-use Rattle.load_vectors.specs.Loads.{AreLoads}
-use Rattle.load_vectors.specs.Laws.{laws_of}
-use Rattle.case_run.specs.Certified.{bounds_of}
-
-abbrev pub ends_of : Bounds → Ends
-ends_of b = record { lo = b.lo; hi = b.hi }
+use Rattle.load_vectors.specs.Equilibria.{OfEquilibria}
+use Rattle.model_types.specs.Fits.{bounds_of, ends_of}
 
 -- the bounds at a place of a list
 abbrev pub ends_at : List Bounds → ℕ → Ends
@@ -32,12 +26,6 @@ pub record AreWithin (m : Lists) (r : Realisation) (exact : Vector) (u loads : L
       Within (ends_at loads k) (force_fraction r.stiffness.denominator (force_in r exact (element_member_count m + k)))
   pub state : (number : ℕ) → number < length (unilateral_of m) →
       IsInState r exact (slice_index (unilateral_of m) number) (slice_index_or states number false)
-
--- a fact of every equilibrium of every realisation of the model's structure under the loads of the case
-abbrev pub OfEquilibria : Lists → ℕ → (Realisation → Vector → Type 0) → Type 0
-OfEquilibria m case IsSo =
-    (b : Built) (loads : List Ends) (r : Realisation) (exact : Vector) → IsStructureOf m b → AreLoads m case loads →
-    IsRealisation (system b (laws_of m case) loads) r → IsEquilibrium r exact → IsSo r exact
 
 -- certified bounds and states hold in every equilibrium
 abbrev pub HoldsAlways : Lists → ℕ → CaseAnswer → Type 0

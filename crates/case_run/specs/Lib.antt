@@ -1,10 +1,12 @@
 pub mod Causes
 pub mod Contacts
 pub mod Steps
+pub mod Pattern
 pub mod Reasons
 pub mod Trials
 pub mod Trying
 pub mod Answers
+pub mod Runs
 pub mod Faults
 pub mod Certified
 pub mod Equilibria

@@ -1,11 +1,12 @@
 -- What the steps of a case hand on.
-use Rattle.std.specs.Prelude.{◌≡◌, ℕ, ◌^◌, ◌<◌, ◌≤◌, List, length, Option, pos, ◌≤ℤ◌, ◌<ℤ◌, unsigned_abs}
+use Rattle.std.specs.Prelude.{◌≡◌, ℕ, ◌^◌, ◌<◌, ◌≤◌, length, pos, ◌≤ℤ◌, ◌<ℤ◌, unsigned_abs}
 use Rattle.sym_blocks.specs.Matrix.{Matrix, node_count, entry}
 use Rattle.factor_data.specs.Columns.{ColumnLists, HasDiagonal}
 use Rattle.lists.specs.Order.{IsOrder}
 use Rattle.elimination.specs.Elimination.{AreParents}
 use Rattle.member_set.specs.declared.members.Built.{Built}
 use Rattle.member_set.specs.Members.{built_nodes as nodes_of}
+use Rattle.case_run.specs.Causes.{Plan}
 
 -- a matrix of so many nodes whose entries are below 2^60 in size
 pub record IsFactorable (nodes : ℕ) (m : Matrix) : Type 0 where
@@ -13,12 +14,12 @@ pub record IsFactorable (nodes : ℕ) (m : Matrix) : Type 0 where
   pub small : (i j : ℕ) → unsigned_abs (entry m i j) < 2 ^ 60
 
 -- an order of some nodes, and the parent of each of its places
-pub record IsPlan (order : List ℕ) (parents : List (Option ℕ)) : Type 0 where
-  pub some : 0 < length order
-  pub few : length order ≤ 8000
-  pub ordered : IsOrder order
-  pub parents_count : length parents ≡ length order
-  pub parents_later : AreParents parents (length order)
+pub record IsPlan (p : Plan) : Type 0 where
+  pub some : 0 < length p.order
+  pub few : length p.order ≤ 8000
+  pub ordered : IsOrder p.order
+  pub parents_count : length p.parents ≡ length p.order
+  pub parents_later : AreParents p.parents (length p.order)
 
 -- radii of so many nodes, from 0 to below 2^60
 pub record IsRadiusMatrix (nodes : ℕ) (m : Matrix) : Type 0 where

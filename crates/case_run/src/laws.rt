@@ -1,4 +1,4 @@
-ghost use Rattle.case_run.specs.Soundness.{AnswerHolds, AnswersHold, RealisationsExist};
+ghost use Rattle.case_run.specs.Soundness.{AnswerHolds, AnswersHold, ForcesAreTold, ForcesHold, OneForceEach, RealisationsExist};
 
 /// What the answers of a model's cases hold, as a function of the model and of the order of its nodes: every equilibrium of
 /// every realisation of the model's structure under the loads of a case lies within the bounds of a certified answer, and each
@@ -6,6 +6,23 @@ ghost use Rattle.case_run.specs.Soundness.{AnswerHolds, AnswersHold, Realisation
 pub fn answers_hold()
     ensures each { AnswerHolds }
     ensures all { AnswersHold }
+{
+    load_vectors::laws_suit_models();
+    bound_laws::passed_test_is_proof();
+    assembly::matrices_hold();
+    member_set::states_select_members();
+    certificate::states_hold();
+    structure::structures_are_stiff();
+    structure::structures_have_states();
+}
+
+/// What the forces of a model's cases hold: in every equilibrium of every realisation of the model's structure under the loads
+/// of a case, the force of each member lies within its interval, and each member has one. A case has them exactly where its
+/// answer is certified, which tells those of the restraints.
+pub fn forces_hold()
+    ensures each { ForcesHold }
+    ensures one_each { OneForceEach }
+    ensures told { ForcesAreTold }
 {
     load_vectors::laws_suit_models();
     bound_laws::passed_test_is_proof();

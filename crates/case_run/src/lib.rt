@@ -5,11 +5,12 @@ mod cases;
 mod contacts;
 mod fault;
 mod laws;
+mod maker;
 mod margin;
 mod settle;
 mod shared;
 mod steps;
 mod trial;
 
-pub use cases::answers;
-pub use laws::{answers_hold, realisations_exist};
+pub use cases::{CaseRuns, runs};
+pub use laws::{answers_hold, forces_hold, realisations_exist};

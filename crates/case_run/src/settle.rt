@@ -3,18 +3,19 @@ ghost use Rattle.lists.specs.Results.{Gives};
 ghost use Rattle.member_set.specs.Members.{IsModerate, row_count};
 ghost use Rattle.case_run.specs.Faults.{reason_told, search_fault, turn_fault};
 ghost use Rattle.case_run.specs.Trials.{trial_in, search_of};
-ghost use Rattle.case_run.specs.Trying.{CanTry, system_of, plan_of};
+ghost use Rattle.case_run.specs.Trying.{CanTry, system_of};
 
 use crate::fault::CaseFault;
+use crate::maker::Maker;
 use crate::trial::{CaseTrial, candidate_under};
 use model_types::{Cause, NodeId};
 use restraint_search::{SearchFault, TrialFault, search};
 
 /// The displacements under the states at which a case's search ends, in units of 2^-56 m or rad; or the first cause why it
 /// has none, with its turn.
-pub(crate) fn settled(t: &CaseTrial) -> Result<Vec<i128>, CaseFault>
-    requires { CanTry t.now }
-    ensures given { Gives (λ u. u.items) reason_told (search_of (trial_in (plan_of t.now) (system_of t.now)) t.now.start.now) result }
+pub(crate) fn settled<M: Maker>(t: &CaseTrial<M>) -> Result<Vec<i128>, CaseFault>
+    requires { CanTry (M.plan t.now.maker.now) (M.takes t.now.maker.now) t.now }
+    ensures given { Gives (λ u. u.items) reason_told (search_of (trial_in (M.plan t.now.maker.now) (system_of t.now)) t.now.start.now) result }
     ensures one_each { IfOk result (λ u. length u.items ≡ row_count t.now.b.now) }
     ensures moderate { IfOk result (λ u. IsModerate u.items) }
 {

@@ -1,21 +1,18 @@
-ghost use Rattle.std.specs.Prelude.{◌≡◌, ◌<◌, ◌≤◌, ℕ, length, [], IfOk, ℤ, pos, ◌≤ℤ◌, ◌^◌};
+ghost use Rattle.std.specs.Prelude.{◌≡◌, length, IfOk, pos, ◌≤ℤ◌, ◌^◌};
 ghost use Rattle.member_set.specs.Members.{IsBuilt, built_nodes, AreStiff};
 ghost use Rattle.sym_blocks.specs.Matrix.{entry};
-ghost use Rattle.assembly.specs.Stiffness.{matrices_of};
-ghost use Rattle.elimination.specs.Elimination.{AreParents};
-ghost use Rattle.lists.specs.Order.{IsOrder};
-ghost use Rattle.case_run.specs.Causes.{plan};
+ghost use Rattle.assembly.specs.Stiffness.{matrices_of, middle};
 ghost use Rattle.factor_data.specs.Columns.{HasDiagonal, factor_entry};
-ghost use Rattle.case_run.specs.Steps.{IsFactorable, IsRadiusMatrix};
+ghost use Rattle.case_run.specs.Steps.{IsFactorable, IsPlan, IsRadiusMatrix};
 ghost use Rattle.lists.specs.Results.{named, Gives};
 ghost use Rattle.structure.specs.Structure.{IsStructureOf, structure_of};
 ghost use Rattle.case_run.specs.Reasons.{element_reason, matrix_reason, factor_at};
-ghost use Rattle.case_run.specs.Faults.{reason_told, assemble_fault, scalar_fault};
+ghost use Rattle.case_run.specs.Faults.{reason_told, assemble_fault};
 ghost use Rattle.member_set.specs.States.{under};
 
 use crate::fault::CaseFault;
+use crate::maker::Maker;
 use assembly::{AssembleFault, assemble};
-use factor::{ScalarFault, scalar};
 use factor_data::Factor;
 use member_set::{Built, states_select_members};
 use model_types::Model;
@@ -40,6 +37,7 @@ pub(crate) fn matrices_of(
 ) -> Result<(SymBlocks, SymBlocks), CaseFault>
     requires { IsBuilt b.now }
     ensures given { Gives (λ m. (entry m.0, entry m.1)) reason_told (named matrix_reason (matrices_of (under b.now closed.now))) result }
+    ensures middles { IfOk result (λ m. entry m.0 ≡ middle (under b.now closed.now)) }
     ensures factorable { IfOk result (λ m. IsFactorable (built_nodes b.now) m.0) }
     ensures radii { IfOk result (λ m. IsRadiusMatrix (built_nodes b.now) m.1) }
 {
@@ -54,6 +52,7 @@ pub(crate) fn matrices_under(
 ) -> Result<(SymBlocks, SymBlocks), AssembleFault>
     requires { IsBuilt b.now }
     ensures given { Gives (λ m. (entry m.0, entry m.1)) (λ f. reason_told (assemble_fault f)) (named matrix_reason (matrices_of (under b.now closed.now))) result }
+    ensures middles { IfOk result (λ m. entry m.0 ≡ middle (under b.now closed.now)) }
     ensures factorable { IfOk result (λ m. IsFactorable (built_nodes b.now) m.0) }
     ensures radii { IfOk result (λ m. IsRadiusMatrix (built_nodes b.now) m.1) }
 {
@@ -63,48 +62,19 @@ pub(crate) fn matrices_under(
 }
 
 /// The factor of the middles at a shift.
-pub(crate) fn factor_of(
-    alloc: Global,
+pub(crate) fn factor_of<M: Maker>(
+    maker: &M,
     middles: &SymBlocks,
-    order: &[u32],
-    parents: &[Option<u32>],
     shift: i128,
 ) -> Result<Factor, CaseFault>
-    requires few { length order.now ≤ 8000 }
-    requires order { IsOrder order.now }
-    requires factorable { IsFactorable (length order.now) middles.now }
+    requires plan { IsPlan (M.plan maker.now) }
+    requires factorable { IsFactorable (length (M.plan maker.now).order) middles.now }
+    requires takes { M.takes maker.now (entry middles.now) }
     requires shift_low { pos 0 ≤ℤ shift }
     requires shift_high { shift ≤ℤ pos (2 ^ 44) }
-    requires parents_count { length parents.now ≡ length order.now }
-    requires parents_later { AreParents parents.now (length order.now) }
-    ensures given { Gives (λ f. factor_entry f) reason_told (factor_at (plan order.now parents.now) (entry middles.now) shift) result }
-    ensures own_order { IfOk result (λ f. f.order ≡ order.now) }
+    ensures given { Gives (λ f. factor_entry f) reason_told (factor_at (M.plan maker.now) (entry middles.now) shift) result }
+    ensures own_order { IfOk result (λ f. f.order ≡ (M.plan maker.now).order) }
     ensures diagonal { IfOk result HasDiagonal }
 {
-    Ok(factor_by(alloc, middles, order, parents, shift)?)
-}
-
-/// The same, with the fault of the factorisation. Whatever is factorised is factorised here.
-pub(crate) fn factor_by(
-    alloc: Global,
-    middles: &SymBlocks,
-    order: &[u32],
-    parents: &[Option<u32>],
-    shift: i128,
-) -> Result<Factor, ScalarFault>
-    requires few { length order.now ≤ 8000 }
-    requires order { IsOrder order.now }
-    requires factorable { IsFactorable (length order.now) middles.now }
-    requires shift_low { pos 0 ≤ℤ shift }
-    requires shift_high { shift ≤ℤ pos (2 ^ 44) }
-    requires parents_count { length parents.now ≡ length order.now }
-    requires parents_later { AreParents parents.now (length order.now) }
-    ensures given { Gives (λ f. factor_entry f) (λ f. reason_told (scalar_fault f)) (factor_at (plan order.now parents.now) (entry middles.now) shift) result }
-    ensures own_order { IfOk result (λ f. f.order ≡ order.now) }
-    ensures diagonal { IfOk result HasDiagonal }
-{
-    let factor = scalar(alloc, middles, order, parents, shift)?;
-    // What every factor keeps: it is 0 outside its columns' rows.
-    let _order = factor.order();
-    Ok(factor)
+    Ok(maker.make(middles, shift, false)?)
 }

@@ -4,13 +4,14 @@ ghost use Rattle.factor_data.specs.Columns.{factor_entry};
 ghost use Rattle.member_set.specs.Members.{IsBuilt, IsModerate, row_count, built_nodes};
 ghost use Rattle.solve.specs.Refinement.{problem};
 ghost use Rattle.solve.specs.Turns.{turns_of};
-ghost use Rattle.case_run.specs.Causes.{plan};
+ghost use Rattle.case_run.specs.Pattern.{TakesStructure};
 ghost use Rattle.case_run.specs.Faults.{assembly_trial_fault, scalar_trial_fault, solve_trial_fault, trial_told};
 ghost use Rattle.case_run.specs.Steps.{IsFactorFor, IsPlan};
 ghost use Rattle.case_run.specs.Trials.{trial, trial_in, candidate_under, solve_reason, past_at, violates, violated_by};
-ghost use Rattle.case_run.specs.Trying.{CanTry, system_of, plan_of, IsFactorUnder};
+ghost use Rattle.case_run.specs.Trying.{CanTry, system_of, IsFactorUnder};
 
-use crate::steps::{factor_by, matrices_under};
+use crate::maker::Maker;
+use crate::steps::matrices_under;
 use assembly::AssembleFault;
 use factor::ScalarFault;
 use factor_data::Factor;
@@ -22,33 +23,31 @@ use std::alloc::Global;
 
 /// The trials of contact states in a case.
 #[derive(Clone, Copy)]
-pub(crate) struct CaseTrial<'a> {
+pub(crate) struct CaseTrial<'a, M> {
     pub(crate) alloc: Global,
+    /// What makes the factors.
+    pub(crate) maker: &'a M,
     /// The structure.
     pub(crate) b: &'a Built,
     /// The laws of its members.
     pub(crate) laws: &'a [Law],
     /// The load of each row, in units of 2^-40 N or N m.
     pub(crate) loads: &'a [Iv],
-    /// In which order the nodes are eliminated.
-    pub(crate) order: &'a [u32],
-    /// The parent of each place of the order.
-    pub(crate) parents: &'a [Option<u32>],
     /// The states from which the search starts.
     pub(crate) start: &'a [bool],
     /// The factor under these, or why there is none; made once for all cases.
     pub(crate) first: &'a Result<Factor, TrialFault>,
 }
 
-impl Trial for CaseTrial<'_> {
-    ghost can_try = { CanTry };
+impl<M: Maker> Trial for CaseTrial<'_, M> {
+    ghost can_try = { λ t. CanTry (M.plan t.maker.now) (M.takes t.maker.now) t };
 
     ghost size = { λ t. length t.b.now.unilateral };
 
-    ghost finds = { λ t states violated. (u : List ℤ) × ((turn : ℕ) → trial_in (plan_of t) (system_of t) turn states ≡ Ok (trial u violated)) };
+    ghost finds = { λ t states violated. (u : List ℤ) × ((turn : ℕ) → trial_in (M.plan t.maker.now) (system_of t) turn states ≡ Ok (trial u violated)) };
 
     ghost fails = { λ t states fault. (turn : ℕ) →
-        IfSome (trial_told turn fault) (λ e. trial_in (plan_of t) (system_of t) turn states ≡ Err e) };
+        IfSome (trial_told turn fault) (λ e. trial_in (M.plan t.maker.now) (system_of t) turn states ≡ Err e) };
 
     fn try_states(&mut self, closed: &[bool]) -> Result<Vec<bool>, TrialFault> {
         let u = candidate_under(self, closed)?;
@@ -57,9 +56,12 @@ impl Trial for CaseTrial<'_> {
 }
 
 /// The displacements after eight turns of refinement under given states, in units of 2^-56 m or rad.
-pub(crate) fn candidate_under(t: &CaseTrial, closed: &[bool]) -> Result<Vec<i128>, TrialFault>
-    requires { CanTry t.now }
-    ensures given { (turn : ℕ) → Gives (λ u. u.items) (trial_told turn) (candidate_under (plan_of t.now) (system_of t.now) turn closed.now) result }
+pub(crate) fn candidate_under<M: Maker>(
+    t: &CaseTrial<M>,
+    closed: &[bool],
+) -> Result<Vec<i128>, TrialFault>
+    requires { CanTry (M.plan t.now.maker.now) (M.takes t.now.maker.now) t.now }
+    ensures given { (turn : ℕ) → Gives (λ u. u.items) (trial_told turn) (candidate_under (M.plan t.now.maker.now) (system_of t.now) turn closed.now) result }
     ensures one_each { IfOk result (λ u. length u.items ≡ row_count t.now.b.now) }
     ensures moderate { IfOk result (λ u. IsModerate u.items) }
 {
@@ -69,17 +71,21 @@ pub(crate) fn candidate_under(t: &CaseTrial, closed: &[bool]) -> Result<Vec<i128
             Err(fault) => Err(*fault),
         };
     }
-    let factor = factor_under(t.alloc, t.b, t.order, t.parents, closed)?;
+    let factor = factor_under(t.alloc, t.maker, t.b, closed, false)?;
     candidate_by(t, closed, &factor)
 }
 
 /// The displacements after eight turns of refinement under given states, by the factor under them.
-fn candidate_by(t: &CaseTrial, closed: &[bool], factor: &Factor) -> Result<Vec<i128>, TrialFault>
-    requires triable { CanTry t.now }
-    requires own_order { factor.now.order ≡ t.now.order.now }
+fn candidate_by<M: Maker>(
+    t: &CaseTrial<M>,
+    closed: &[bool],
+    factor: &Factor,
+) -> Result<Vec<i128>, TrialFault>
+    requires triable { CanTry (M.plan t.now.maker.now) (M.takes t.now.maker.now) t.now }
+    requires own_order { factor.now.order ≡ (M.plan t.now.maker.now).order }
     requires fits { IsFactorFor t.now.b.now factor.now }
     ensures given { (turn : ℕ) → Gives (λ u. u.items) (trial_told turn)
-        (named (λ _. solve_reason turn) (turns_of (problem (system_of t.now) closed.now t.now.order.now (factor_entry factor.now)) 8)) result }
+        (named (λ _. solve_reason turn) (turns_of (problem (system_of t.now) closed.now (M.plan t.now.maker.now).order (factor_entry factor.now)) 8)) result }
     ensures one_each { IfOk result (λ u. length u.items ≡ row_count t.now.b.now) }
     ensures moderate { IfOk result (λ u. IsModerate u.items) }
 {
@@ -89,26 +95,27 @@ fn candidate_by(t: &CaseTrial, closed: &[bool], factor: &Factor) -> Result<Vec<i
     }
 }
 
-/// The factor of the middles of the members that take part under given states.
-pub(crate) fn factor_under(
+/// The factor of the middles of the members that take part under given states; `starting` tells that searches start from these.
+pub(crate) fn factor_under<M: Maker>(
     alloc: Global,
+    maker: &M,
     b: &Built,
-    order: &[u32],
-    parents: &[Option<u32>],
     closed: &[bool],
+    starting: bool,
 ) -> Result<Factor, TrialFault>
     requires built { IsBuilt b.now }
-    requires plan { IsPlan order.now parents.now }
-    requires nodes { length order.now ≡ built_nodes b.now }
-    ensures given { IsFactorUnder (plan order.now parents.now) b.now closed.now result }
-    ensures own_order { IfOk result (λ f. f.order ≡ order.now) }
+    requires plan { IsPlan (M.plan maker.now) }
+    requires nodes { length (M.plan maker.now).order ≡ built_nodes b.now }
+    requires takes_structure { TakesStructure (M.takes maker.now) b.now }
+    ensures given { IsFactorUnder (M.plan maker.now) b.now closed.now result }
+    ensures own_order { IfOk result (λ f. f.order ≡ (M.plan maker.now).order) }
     ensures fits { IfOk result (IsFactorFor b.now) }
 {
     let (middles, _radii) = match matrices_under(alloc, b, closed) {
         Ok(matrices) => matrices,
         Err(fault) => return Err(assembly_fault(fault)),
     };
-    match factor_by(alloc, &middles, order, parents, 0) {
+    match maker.make(&middles, 0, starting) {
         Ok(factor) => Ok(factor),
         Err(fault) => Err(factor_fault(fault)),
     }
@@ -116,8 +123,12 @@ pub(crate) fn factor_under(
 
 /// Which states displacements violate: a closed one where the reach falls short of the gap, an open one where it is past the
 /// gap, by the middles of the intervals.
-fn violated_by(t: &CaseTrial, u: &[i128], closed: &[bool]) -> Result<Vec<bool>, TrialFault>
-    requires triable { CanTry t.now }
+fn violated_by<M: Maker>(
+    t: &CaseTrial<M>,
+    u: &[i128],
+    closed: &[bool],
+) -> Result<Vec<bool>, TrialFault>
+    requires triable { CanTry (M.plan t.now.maker.now) (M.takes t.now.maker.now) t.now }
     requires one_displacement_each { length u.now ≡ row_count t.now.b.now }
     requires moderate { IsModerate u.now }
     requires one_state_each { length closed.now ≡ length t.now.b.now.unilateral }
@@ -137,8 +148,8 @@ fn violated_by(t: &CaseTrial, u: &[i128], closed: &[bool]) -> Result<Vec<bool>, 
 }
 
 /// By how much displacements reach past the gap of the contact of a state number, in units of 2^-56 m.
-fn past_at(t: &CaseTrial, u: &[i128], number: u32) -> Result<Iv, IvFault>
-    requires triable { CanTry t.now }
+fn past_at<M: Maker>(t: &CaseTrial<M>, u: &[i128], number: u32) -> Result<Iv, IvFault>
+    requires triable { CanTry (M.plan t.now.maker.now) (M.takes t.now.maker.now) t.now }
     requires one_displacement_each { length u.now ≡ row_count t.now.b.now }
     requires moderate { IsModerate u.now }
     requires number { number < length t.now.b.now.unilateral }

@@ -1,7 +1,7 @@
 use Rattle.std.proofs.Common.{rules, tests}
 use Rattle.std.proofs.lemmas.Iterator.{YieldsList-from_map, YieldsList-from_slice, items_from_collect}
 use Rattle.std.proofs.lemmas.Iterator.Adapters.{YieldsList-from_skip}
-use Rattle.case_run.specs.Certified.{bounds_of}
+use Rattle.model_types.specs.Fits.{bounds_of}
 use Rattle.case_run.proofs.cases.bounds_from.Goals as goal
 
 pub returns : goal.returns

@@ -1,6 +1,5 @@
 use Rattle.std.proofs.Common.{◌≡◌, ap, Ok, Err}
 use Rattle.member_set.specs.Members.{system}
-use Rattle.case_run.specs.Causes.{plan}
 use Rattle.case_run.specs.Reasons.{Reason}
 use Rattle.case_run.specs.Faults.{trial_told}
 use Rattle.case_run.specs.Trials.{trial_in, candidate_under, search_of}
@@ -9,16 +8,16 @@ use Rattle.case_run.proofs.GivenSearch.{search_tells, turn_tells, ends_at, no_re
 use Rattle.case_run.proofs.settle.settled.Goals as goal
 
 pub returns-in-Err-clause-given : goal.returns-in-Err-clause-given
-returns-in-Err-clause-given c =
+returns-in-Err-clause-given g c =
     let t = c.args.t.now in
     rw c.search_fault.ensures
-    (search_tells (trial_in (plan t.order.now t.parents.now) (system t.b.now t.laws.now t.loads.now)) t.start.now c.in-Err.fault
+    (search_tells (trial_in (g.M.Maker.plan t.maker.now) (system t.b.now t.laws.now t.loads.now)) t.start.now c.in-Err.fault
     (λ is. c.in-Err.ensures.turns (ap Err is)) (λ turn why is. c.in-Err.ensures.failed turn why (ap Err is)))
 
 pub returns-in-Ok-candidate_under-clause-given : goal.returns-in-Ok-candidate_under-clause-given
-returns-in-Ok-candidate_under-clause-given c =
+returns-in-Ok-candidate_under-clause-given g c =
     let t = c.args.t.now in
-    let p = plan t.order.now t.parents.now in
+    let p = g.M.Maker.plan t.maker.now in
     let s = system t.b.now t.laws.now t.loads.now in
     let closed = c.in-Ok.closed.items in
     let u = c.in-Ok-candidate_under.u.items in
@@ -26,9 +25,9 @@ returns-in-Ok-candidate_under-clause-given c =
     ends_at (trial_in p s) t.start.now closed u c.in-Ok.ensures.found (λ violated found. one_candidate p s 1 closed found.0 u violated (found.1 1) given)
 
 pub returns-clause-given : goal.returns-clause-given
-returns-clause-given c =
+returns-clause-given g c =
     let t = c.args.t.now in
-    let p = plan t.order.now t.parents.now in
+    let p = g.M.Maker.plan t.maker.now in
     let s = system t.b.now t.laws.now t.loads.now in
     let closed = c.in-Ok.closed.items in
     let fault = c.in-Err-candidate_under.fault in

@@ -1,5 +1,5 @@
 use Rattle.member_set.specs.States.{under}
-use Rattle.case_run.proofs.GivenTrial.{matrices_told, matrices_factorable, matrices_radii}
+use Rattle.case_run.proofs.GivenTrial.{matrices_are, matrices_told, matrices_factorable, matrices_radii}
 use Rattle.case_run.proofs.steps.matrices_under.Goals as goal
 
 pub returns-clause-given : goal.returns-clause-given
@@ -7,6 +7,12 @@ returns-clause-given c =
     let b = under c.args.b.now c.args.closed.now in
     let made = c.assemble.ensures in
     matrices_told b c.assemble.result (c.states_select_members.ensures.built c.args.b.now c.args.closed.now c.requires) made.matrices made.kept made.fault
+
+pub returns-clause-middles : goal.returns-clause-middles
+returns-clause-middles c =
+    let b = under c.args.b.now c.args.closed.now in
+    let made = c.assemble.ensures in
+    matrices_are b c.assemble.result (c.states_select_members.ensures.built c.args.b.now c.args.closed.now c.requires) made.matrices made.kept
 
 pub returns-clause-factorable : goal.returns-clause-factorable
 returns-clause-factorable c =

@@ -4,7 +4,6 @@ use Rattle.std.proofs.lemmas.Slice.Eq.{slice_eq-Decides}
 use Rattle.factor_data.specs.Columns.{factor_entry}
 use Rattle.lists.specs.Results.{Gives}
 use Rattle.member_set.specs.Members.{system}
-use Rattle.case_run.specs.Causes.{plan}
 use Rattle.case_run.specs.Reasons.{Reason}
 use Rattle.case_run.specs.Faults.{trial_told}
 use Rattle.case_run.specs.Trials.{candidate_under, factor_under}
@@ -12,9 +11,9 @@ use Rattle.case_run.proofs.GivenTrial.{told_too, candidate_no_factor, candidate_
 use Rattle.case_run.proofs.trial.candidate_under.Goals as goal
 
 pub returns-in-Ok-clause-given : goal.returns-in-Ok-clause-given
-returns-in-Ok-clause-given c = λ turn.
+returns-in-Ok-clause-given g c = λ turn.
     let t = c.args.t.now in
-    let p = plan t.order.now t.parents.now in
+    let p = g.M.Maker.plan t.maker.now in
     let s = system t.b.now t.laws.now t.loads.now in
     let closed = c.args.closed.now in
     let same : closed ≡ t.start.now = (slice_eq-Decides booleans_Decides closed t.start.now true c.if-eq.ensures).0 refl in
@@ -24,9 +23,9 @@ returns-in-Ok-clause-given c = λ turn.
     (sym (candidate_by_factor p s turn closed (factor_entry c.in-Ok.factor) factor)) (c.candidate_by.ensures.given turn)
 
 pub returns-in-Err-clause-given : goal.returns-in-Err-clause-given
-returns-in-Err-clause-given c = λ turn.
+returns-in-Err-clause-given g c = λ turn.
     let t = c.args.t.now in
-    let p = plan t.order.now t.parents.now in
+    let p = g.M.Maker.plan t.maker.now in
     let s = system t.b.now t.laws.now t.loads.now in
     let closed = c.args.closed.now in
     let same : closed ≡ t.start.now = (slice_eq-Decides booleans_Decides closed t.start.now true c.if-eq.ensures).0 refl in
@@ -35,9 +34,9 @@ returns-in-Err-clause-given c = λ turn.
     (λ e is. candidate_no_factor p s turn closed e (rw same is)) (made turn)
 
 pub returns-clause-given : goal.returns-clause-given
-returns-clause-given c = λ turn.
+returns-clause-given g c = λ turn.
     let t = c.args.t.now in
-    let p = plan t.order.now t.parents.now in
+    let p = g.M.Maker.plan t.maker.now in
     let s = system t.b.now t.laws.now t.loads.now in
     let closed = c.args.closed.now in
     subst (λ (o : Result (List ℤ) Reason). Gives (λ u. u.items) (trial_told turn) o c.candidate_by-2.result)

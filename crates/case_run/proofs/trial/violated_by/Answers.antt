@@ -10,7 +10,7 @@ use Rattle.case_run.proofs.GivenTrial.{violation, violated_found, violated_wide,
 use Rattle.case_run.proofs.trial.violated_by.Goals as goal
 
 pub loop-number-preserved : goal.loop-number-preserved
-loop-number-preserved c =
+loop-number-preserved g c =
     let t = c.args.t.now in
     let s = system t.b.now t.laws.now t.loads.now in
     let u = c.args.u.now in
@@ -28,7 +28,7 @@ loop-number-preserved c =
     }
 
 pub returns-in-Err-clause-failed : goal.returns-in-Err-clause-failed
-returns-in-Err-clause-failed c = λ fault is memory.
+returns-in-Err-clause-failed g c = λ fault is memory.
     let t = c.args.t.now in
     let here : past_at (system t.b.now t.laws.now t.loads.now) c.args.u.now c.loop-number.number ≡ Err c.in-Err._wide = sym c.past_at.ensures ∙ c.in-Err.is in (
       cc,
@@ -37,7 +37,7 @@ returns-in-Err-clause-failed c = λ fault is memory.
     )
 
 pub returns-clause-found : goal.returns-clause-found
-returns-clause-found c =
+returns-clause-found g c =
     let t = c.args.t.now in
     let size = length c.args.closed.now in
     let before = c.loop-number.invariant in

@@ -7,7 +7,7 @@ use Rattle.case_run.proofs.trial.violated_by.Given as goal
 
 -- the states below a number are told, and their reaches are found
 abbrev pub invariant-loop-number : goal.invariant-loop-number
-invariant-loop-number l = record {
+invariant-loop-number g l = record {
   one_each : length l.violated.items ≡ length l.closed;
   told : (k : ℕ) → k < l.number → state_at l.violated.items k ≡ violation (system l.t.b.now l.t.laws.now l.t.loads.now) l.u l.closed k;
   found : (k : ℕ) → k < l.number → is_err (past_at (system l.t.b.now l.t.laws.now l.t.loads.now) l.u k) ≡ false;
