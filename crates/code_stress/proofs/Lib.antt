@@ -1,2 +1,9 @@
-pub mod VerdictLemmas
 pub mod AllowableLemmas
+pub mod EndLemmas
+pub mod StationLemmas
+pub mod MeaningLemmas
+pub mod CheckLemmas
+pub mod PullLemmas
+pub mod ActionLemmas
+pub mod RuleLemmas
+pub mod DataLemmas

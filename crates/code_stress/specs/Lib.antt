@@ -4,4 +4,9 @@ pub mod Bend
 pub mod Straight
 pub mod Station
 pub mod Allowable
-pub mod Judgement
+pub mod Actions
+pub mod Data
+pub mod Allowances
+pub mod Checks
+pub mod Rules
+pub mod Meaning

@@ -2,13 +2,16 @@
 #![tactic(auto)]
 
 mod action;
+mod actions;
 mod allowable;
+mod allowances;
+mod answers;
 mod bend;
+mod data;
 mod direct;
-mod judgement;
 mod station;
 mod straight;
 
 pub use allowable::{expansion_allowable, occasional_allowable, sustained_allowable};
-pub use judgement::{Verdict, verdict_on};
+pub use answers::{checks, no_checks};
 pub use station::{StationData, station_stress};

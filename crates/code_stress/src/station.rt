@@ -41,6 +41,7 @@ pub fn station_stress(f: [Iv; 6], s: &StationData, sustained: Option<i64>) -> Re
     ensures value { result ≡ station_stress_of f s.now sustained }
     ensures encloses { IfOk result (λ e. (x : ExactStation) → EnclosesStation f s.now x →
         EnclosesStress (direct_stress x s.now.section sustained) (bending_stress_square x (is_some sustained)) (torsion_stress x) e) }
+    ensures from_zero { IfOk result (λ e. pos 0 ≤ℤ e.lo) }
 {
     let moment = moment_vector(&f);
     let direct = direct_stress(&force_vector(&f), s, sustained)?;

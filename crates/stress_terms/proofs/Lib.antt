@@ -1,3 +1,4 @@
 pub mod FromZero
 pub mod Bounds
 pub mod EnclosureLemmas
+pub mod VerdictLemmas

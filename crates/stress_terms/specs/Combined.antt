@@ -24,6 +24,11 @@ pub record EnclosesStress (axial bending_square torsion : Fraction) (e : Ends) :
   pub at_most : (b : Fraction) → IsNonnegative b → IsAtMost (times b b 0) bending_square → IsAtMost (combined_square axial b torsion) (whole (e.hi *ℤ e.hi))
   pub at_least : (b : Fraction) → IsNonnegative b → IsAtMost bending_square (times b b 0) → IsAtMost (whole (e.lo *ℤ e.lo)) (combined_square axial b torsion)
 
+-- the same stress is enclosed by a wider interval from 0 on
+abbrev pub WiderStressHolds : Type 0
+WiderStressHolds = (inner outer : Ends) (a q t : Fraction) → pos 0 ≤ℤ outer.lo → outer.lo ≤ℤ inner.lo → inner.lo ≤ℤ inner.hi → inner.hi ≤ℤ outer.hi
+    → EnclosesStress a q t inner → EnclosesStress a q t outer
+
 -- the interval, operation by operation
 unfoldable pub combined_of : Ends → Ends → Ends → Result Ends IvFault
 combined_of axial bending_square torsion =

@@ -13,6 +13,7 @@ pub fn combined(axial: Iv, bending_square: Iv, torsion: Iv) -> Result<Iv, IvFaul
     requires torsion { pos 0 ≤ℤ torsion.lo }
     ensures value { result ≡ combined_of axial bending_square torsion }
     ensures encloses { IfOk result (λ e. (a q t : Fraction) → Within axial a → Within bending_square q → Within torsion t → EnclosesStress a q t e) }
+    ensures from_zero { IfOk result (λ e. pos 0 ≤ℤ e.lo) }
 {
     let bending = root(bending_square, 0)?;
     let direct = sum(axial, bending)?;

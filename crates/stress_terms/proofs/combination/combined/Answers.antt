@@ -19,3 +19,6 @@ returns-clause-encloses c = IfOk-weaker c.root-2.result _ _ (λ e encloses a q t
       squares = c.in_ok-total.ensures.within;
       root_of_total = encloses;
     }) in_a in_q in_t) c.root-2.ensures.encloses
+
+pub returns-clause-from_zero : goal.returns-clause-from_zero
+returns-clause-from_zero c = IfOk-weaker c.root-2.result _ _ (λ e encloses. encloses.nonnegative) c.root-2.ensures.encloses

@@ -1,4 +1,4 @@
--- A stress whose enclosure lies below or above that of its allowable is below or above it.
+-- A stress whose enclosure lies below or above that of its allowable is below or above it; and wider enclosures of a stress.
 use Rattle.std.proofs.Common.{◌≡◌, arith, ℤ, pos, ◌*ℤ◌, ◌≤ℤ◌, ◌<ℤ◌}
 use Rattle.std.proofs.lemmas.Int.{ints}
 use Rattle.int_laws.proofs.Sums.{int_sums}
@@ -6,8 +6,9 @@ use Rattle.int_laws.proofs.Products.{mul_right_comm, mul_mul_mul_comm, mul_nonne
 use Rattle.flex_interval.specs.Ends.{Ends}
 use Rattle.flex_interval.specs.Fraction.{Fraction, Within, whole, plus, times}
 use Rattle.flex_interval.specs.Roots.{IsNonnegative}
-use Rattle.stress_terms.specs.Combined.{IsAtMost, combined_square, EnclosesStress}
-use Rattle.code_stress.specs.Judgement.{IsLess, IsStressAtMost, IsStressAbove}
+use Rattle.stress_terms.specs.Combined.{IsAtMost, combined_square, EnclosesStress, WiderStressHolds}
+use Rattle.stress_terms.specs.Judgement.{IsLess, IsStressAtMost, IsStressAbove, VerdictsHold, verdict_of}
+use Rattle.stress_terms.specs.declared.judgement.Verdict.TheVariants.{Pass, Fail}
 
 by_one : (z : ℤ) → z *ℤ pos 1 ≡ z
 by_one z = omega (arith, ints)
@@ -62,3 +63,40 @@ fails stress allowable a q t y above encloses within positive = λ b number more
     let enough = lt_mul y.den within.defined above in
     over_square (combined_square a b t) y stress.lo (square_is_defined a b t encloses.axial_defined number.defined encloses.torsion_defined) within.defined
     positive.nonnegative (omega (arith, int_sums, within.at_most)) (encloses.at_least b number more)
+
+verdict_passes : (stress allowable : Ends) → verdict_of stress allowable ≡ Pass → stress.hi ≤ℤ allowable.lo
+verdict_passes stress allowable is = grind arith
+
+verdict_fails : (stress allowable : Ends) → verdict_of stress allowable ≡ Fail → allowable.hi <ℤ stress.lo
+verdict_fails stress allowable is = grind arith
+
+pub verdicts_hold : VerdictsHold
+verdicts_hold = record {
+  pass = λ stress allowable ordered is a q t y. passes stress allowable a q t y ordered (verdict_passes stress allowable is);
+  fail = λ stress allowable ordered is a q t y. fails stress allowable a q t y (verdict_fails stress allowable is);
+}
+
+-- a number up to h^2 is up to k^2, where k is at least h
+up_to_square : (x : Fraction) (h k : ℤ) → pos 0 <ℤ x.den → pos 0 ≤ℤ h → h ≤ℤ k → IsAtMost x (whole (h *ℤ h)) → IsAtMost x (whole (k *ℤ k))
+unfolding whole
+up_to_square x h k defined positive more most =
+    let square = le_mul x.den (omega (arith, int_sums, defined)) (square_le h k positive more) in
+    omega (arith, int_sums, most, square)
+
+-- a number from h^2 on is from k^2 on, where k is at most h
+from_square : (x : Fraction) (h k : ℤ) → pos 0 <ℤ x.den → pos 0 ≤ℤ k → k ≤ℤ h → IsAtMost (whole (h *ℤ h)) x → IsAtMost (whole (k *ℤ k)) x
+unfolding whole
+from_square x h k defined positive less least =
+    let square = le_mul x.den (omega (arith, int_sums, defined)) (square_le k h positive less) in
+    omega (arith, int_sums, least, square)
+
+pub wider_stress_holds : WiderStressHolds
+wider_stress_holds inner outer a q t from_zero lower ordered upper encloses =
+    let defined = λ (b : Fraction) (number : IsNonnegative b). square_is_defined a b t encloses.axial_defined number.defined encloses.torsion_defined in
+    record {
+      axial_defined = encloses.axial_defined;
+      torsion_defined = encloses.torsion_defined;
+      from_zero = from_zero;
+      at_most = λ b number less. up_to_square (combined_square a b t) inner.hi outer.hi (defined b number) (omega (arith, int_sums)) upper (encloses.at_most b number less);
+      at_least = λ b number more. from_square (combined_square a b t) inner.lo outer.lo (defined b number) from_zero lower (encloses.at_least b number more);
+    }

@@ -2,8 +2,8 @@ use Rattle.std.proofs.Common.{ap, arith, ◌≤ℤ◌, ◌<ℤ◌, FitsSigned}
 use Rattle.std.specs.Int.{w128}
 use Rattle.int_laws.proofs.Sums.{int_sums}
 use Rattle.flex_interval.specs.Ends.{Ends}
-use Rattle.code_stress.proofs.VerdictLemmas.{passes, fails}
-use Rattle.code_stress.proofs.judgement.verdict_on.Goals as goal
+use Rattle.stress_terms.proofs.VerdictLemmas.{passes, fails}
+use Rattle.stress_terms.proofs.judgement.verdict_on.Goals as goal
 
 pub returns-then-stress-allowable-clause-pass : goal.returns-then-stress-allowable-clause-pass
 returns-then-stress-allowable-clause-pass c =

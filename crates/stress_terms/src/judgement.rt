@@ -2,8 +2,8 @@ ghost use Rattle.std.specs.Prelude.{◌≡◌};
 ghost use Rattle.flex_interval.specs.Fraction.{Fraction, Within};
 ghost use Rattle.flex_interval.specs.Roots.{IsNonnegative};
 ghost use Rattle.stress_terms.specs.Combined.{EnclosesStress};
-ghost use Rattle.code_stress.specs.declared.judgement.Verdict.TheVariants.{Pass, Fail};
-ghost use Rattle.code_stress.specs.Judgement.{verdict_of, IsStressAtMost, IsStressAbove};
+ghost use Rattle.stress_terms.specs.declared.judgement.Verdict.TheVariants.{Pass, Fail};
+ghost use Rattle.stress_terms.specs.Judgement.{verdict_of, IsStressAtMost, IsStressAbove};
 
 use flex_interval::Iv;
 
