@@ -11,6 +11,7 @@ use Rattle.int_laws.specs.Powers.{power}
 use Rattle.flex_interval.specs.Ends.{Ends}
 use Rattle.flex_interval.specs.Fraction.{Fraction, Within}
 use Rattle.model_types.specs.Ranges.{TeeInForm}
+use Rattle.model_types.specs.Fits.{ends_of}
 use Rattle.model_types.specs.declared.records.Section.{Section}
 use Rattle.model_types.specs.declared.records.TeeKind.{TeeKind}
 use Rattle.model_types.specs.declared.records.TeeKind.TheVariants.{Unreinforced, Pad, Coefficient}
@@ -22,7 +23,7 @@ use Rattle.sif_factors.specs.declared.Factors.{Factors}
 use Rattle.text_words.specs.Fields.{line}
 use Rattle.report.specs.Factors.{TellsFactors, TellsTee, in_plane_index}
 use Rattle.report.specs.Report.{printed}
-use Rattle.report.specs.Rounding.{PrintedHolds, ends_of_pair}
+use Rattle.report.specs.Rounding.{PrintedHolds}
 use Rattle.report.specs.Words.{spaced}
 use Rattle.report.proofs.LineLemmas.{line_is}
 
@@ -49,7 +50,7 @@ cubes_le a b c d from less = let more = power_le 2 (a *ℤ b) (c *ℤ d) from le
 
 -- an index within an interval is within the pair that is printed of it
 pub index_printed : (unit other : ℤ) (cube square : Fraction) (e : Ends) → pos 0 <ℤ unit → pos 0 <ℤ other → pos 0 ≤ℤ (square.num *ℤ cube.den)
-    → EnclosesIndexIn unit cube square e → EnclosesIndexIn other cube square (ends_of_pair (printed other unit (record { lo = e.lo; hi = e.hi })))
+    → EnclosesIndexIn unit cube square e → EnclosesIndexIn other cube square (ends_of (printed other unit (record { lo = e.lo; hi = e.hi })))
 index_printed unit other cube square e some more from own =
     let floor = floor_of-is (e.lo *ℤ other) unit some in
     let ceiling = ceil_of-is (e.hi *ℤ other) unit some in

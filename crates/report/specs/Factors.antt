@@ -3,6 +3,7 @@ use Rattle.std.specs.Prelude.{◌≡◌, ◌^◌, List, [], ◌∷◌, ◌++◌,
 use Rattle.flex_interval.specs.Ends.{Ends}
 use Rattle.flex_interval.specs.Fraction.{Fraction, Within, plus, scaled, whole}
 use Rattle.flex_interval.specs.declared.fault.IvFault.{IvFault}
+use Rattle.model_types.specs.Fits.{ends_of}
 use Rattle.model_types.specs.declared.answers.Bounds.{Bounds}
 use Rattle.model_types.specs.declared.records.Section.{Section}
 use Rattle.model_types.specs.declared.records.TeeKind.{TeeKind}
@@ -12,7 +13,6 @@ use Rattle.sif_factors.specs.Index.{EnclosesIndex, EnclosesIndexIn}
 use Rattle.sif_factors.specs.Parts.{squared}
 use Rattle.sif_factors.specs.declared.Factors.{Factors}
 use Rattle.report.specs.Report.{Word, bounds_words, printed}
-use Rattle.report.specs.Rounding.{ends_of_pair}
 
 -- a factor in units of 1 / unit, printed in millionths, rounded outwards
 abbrev pub millionths : ℤ → Ends → Bounds
@@ -36,9 +36,9 @@ factor_lines (Err fault) = []
 
 -- the factors of a bend of radius r lie in their pairs: k, and each index by its cube
 pub record TellsFactors (s : Section) (r : ℤ) (f : Factors) : Type 0 where
-  pub k : Within (ends_of_pair (millionths (pos (2 ^ 56)) f.k)) (scaled (flexibility_factor (bend_characteristic s r)) (pos (10 ^ 6)) (pos (2 ^ 56)))
-  pub ii : EnclosesIndexIn (pos (10 ^ 6)) greater_cube (squared (bend_characteristic s r)) (ends_of_pair (millionths (pos (2 ^ 30)) f.ii))
-  pub io : EnclosesIndexIn (pos (10 ^ 6)) lesser_cube (squared (bend_characteristic s r)) (ends_of_pair (millionths (pos (2 ^ 30)) f.io))
+  pub k : Within (ends_of (millionths (pos (2 ^ 56)) f.k)) (scaled (flexibility_factor (bend_characteristic s r)) (pos (10 ^ 6)) (pos (2 ^ 56)))
+  pub ii : EnclosesIndexIn (pos (10 ^ 6)) greater_cube (squared (bend_characteristic s r)) (ends_of (millionths (pos (2 ^ 30)) f.ii))
+  pub io : EnclosesIndexIn (pos (10 ^ 6)) lesser_cube (squared (bend_characteristic s r)) (ends_of (millionths (pos (2 ^ 30)) f.io))
 
 -- a bend of radius r has factors, and they lie in the pairs that are printed
 pub record FactorsAreTold (s : Section) (r : ℤ) : Type 0 where
@@ -64,8 +64,8 @@ in_plane_index i = plus (scaled i (pos 3) (pos 4)) (whole (pos (2 ^ 28)))
 -- to any number of that interval
 pub record TellsTee (header : Section) (kind : TeeKind) (f : Factors) : Type 0 where
   pub index : EnclosesIndex greater_cube (tee_square header kind) f.io
-  pub io : EnclosesIndexIn (pos (10 ^ 6)) greater_cube (tee_square header kind) (ends_of_pair (millionths (pos (2 ^ 30)) f.io))
-  pub ii : (i : Fraction) → Within f.io i → Within (ends_of_pair (millionths (pos (2 ^ 30)) f.ii)) (scaled (in_plane_index i) (pos (10 ^ 6)) (pos (2 ^ 30)))
+  pub io : EnclosesIndexIn (pos (10 ^ 6)) greater_cube (tee_square header kind) (ends_of (millionths (pos (2 ^ 30)) f.io))
+  pub ii : (i : Fraction) → Within f.io i → Within (ends_of (millionths (pos (2 ^ 30)) f.ii)) (scaled (in_plane_index i) (pos (10 ^ 6)) (pos (2 ^ 30)))
 
 -- a tee on a header has factors, and they lie in the pairs that are printed
 pub record TeeIsTold (header : Section) (kind : TeeKind) : Type 0 where

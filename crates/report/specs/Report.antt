@@ -1,4 +1,4 @@
--- The report of an analysis: its lines, word by word. Displacements are written in nanometres and nanoradians, loads in mN
+-- The report of an analysis: its lines but those of checks, word by word. Displacements are written in nanometres and nanoradians, loads in mN
 -- and mN m, each pair rounded outwards.
 use Rattle.std.specs.Prelude.{ℕ, ◌+◌, ◌*◌, ◌^◌, ◌==◌, nat_lt, Option, Some, None, List, [], ◌∷◌, ◌++◌, length, take, drop, map, codes, ℤ, pos, ◌*ℤ◌, if◌then◌else◌, Bool, false, true}
 use Rattle.std.specs.Fmt.{decimal, signed_decimal}
@@ -15,7 +15,6 @@ use Rattle.model_types.specs.declared.answers.Cause.{Cause}
 use Rattle.model_types.specs.declared.answers.Cause.TheVariants as causes
 use Rattle.model_types.specs.declared.answers.CaseAnswer.{CaseAnswer}
 use Rattle.model_types.specs.declared.answers.CaseAnswer.TheVariants.{Certified, Uncertified}
-use Rattle.text_words.specs.Fields.{line}
 
 abbrev pub Word : Type 0
 Word = List ℕ
@@ -192,7 +191,3 @@ head_lines m = (codes "pipeflex" ∷ codes "report" ∷ codes "1" ∷ []) ∷ co
 
 abbrev pub end_lines : List (List Word)
 end_lines = (codes "end" ∷ []) ∷ []
-
--- the bytes of the report of a model whose cases have these answers
-abbrev pub report_of : Lists → List CaseAnswer → List ℕ
-report_of m answers = flat_map line (head_lines m ++ case_lines m m.cases answers ++ end_lines)

@@ -1,26 +1,35 @@
 ghost use Rattle.std.specs.Prelude.{◌≡◌, ◌++◌, All, OnErr, OnOk, IfOk};
 ghost use Rattle.std.specs.Io.{StartsWith};
 ghost use Rattle.std.specs.List.{flat_map};
-ghost use Rattle.model_types.specs.Fits.{AreAnswersOf, FitsModel, IsCauseIn, IsGuessFor};
-ghost use Rattle.report.specs.Report.{answer_lines, candidate_lines, case_lines, count_words, head_lines, report_of, uncertified_words};
+ghost use Rattle.model_types.specs.Fits.{AreAnswersOf, AreChecksOf, FitsModel, IsCauseIn, IsGuessFor};
+ghost use Rattle.report.specs.Report.{answer_lines, candidate_lines, case_lines, count_words, head_lines, uncertified_words};
+ghost use Rattle.report.specs.Whole.{report_of};
 ghost use Rattle.text_words.specs.Fields.{line};
 
 use crate::causes::push_cause;
+use crate::checks::push_checks;
 use crate::rows::{push_guesses, push_nodes, push_restraints};
 use crate::words::push_word;
 use itoa::Buffer;
-use model_types::{Case, CaseAnswer, Cause, Model, NoMemory};
+use model_types::{Case, CaseAnswer, Cause, CheckAnswer, Model, NoMemory};
 use std::alloc::Global;
 use text_words::push_line;
 
-/// The report of a model whose cases have these answers, in order.
-pub fn bytes(alloc: Global, m: &Model, cases: &[CaseAnswer]) -> Result<Vec<u8>, NoMemory>
+/// The report of a model whose cases and checks have these answers, in order.
+pub fn bytes(
+    alloc: Global,
+    m: &Model,
+    cases: &[CaseAnswer],
+    checks: &[CheckAnswer],
+) -> Result<Vec<u8>, NoMemory>
     requires answers { AreAnswersOf m.now cases.now }
-    ensures { IfOk result (λ bytes. bytes.items ≡ report_of m.now cases.now) }
+    requires checks { AreChecksOf m.now checks.now }
+    ensures { IfOk result (λ bytes. bytes.items ≡ report_of m.now cases.now checks.now) }
 {
     let mut out = Vec::new(alloc);
     push_head(&mut out, m)?;
     push_answers(&mut out, m, cases)?;
+    push_checks(&mut out, m, checks)?;
     push_line(&mut out, &[b"end"])?;
     Ok(out)
 }

@@ -1,9 +1,10 @@
 ghost use Rattle.std.specs.Prelude.{◌≡◌, ◌*ℤ◌};
 ghost use Rattle.int_laws.specs.Division.{ceil_of, floor_of, nearest_of};
 ghost use Rattle.model_types.specs.Fits.{IsModest};
-ghost use Rattle.report.specs.Rounding.{IsScale, PrintedHolds};
+ghost use Rattle.report.specs.Rounding.{IsScale, PrintedHolds, PrintedStressesHold};
 
 use flex_num::{ceil_div, floor_div, nearest_div};
+use stress_terms::wider_stresses_hold;
 
 /// Nanometres and nanoradians in a metre and a radian.
 pub(crate) const NANO: i128 = 1_000_000_000;
@@ -22,6 +23,9 @@ pub(crate) const MILLION: i128 = 1_000_000;
 
 /// Units of a flexibility factor, 2^-56, in one.
 pub(crate) const FLEXIBILITY_UNITS: i128 = 1 << 56;
+
+/// Units of stress, 2^-16 Pa, in a kilopascal.
+pub(crate) const KILOPASCAL: i128 = 65_536_000;
 
 /// Units of a stress intensification factor, 2^-30, in one.
 pub(crate) const INDEX_UNITS: i128 = 1 << 30;
@@ -57,3 +61,10 @@ pub(crate) fn rounded(z: i128, n: i128, m: i128) -> i128
 pub fn printed_pairs_hold()
     ensures { PrintedHolds }
 {}
+
+/// What bounds tell of a stress and of an allowable, the pair in kPa that is printed of them tells too.
+pub fn printed_stresses_hold()
+    ensures { PrintedStressesHold }
+{
+    wider_stresses_hold();
+}
