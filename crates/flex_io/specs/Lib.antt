@@ -1,4 +1,5 @@
 pub mod Counted
+pub mod Delivery
 pub mod Fault
 pub mod Source
 pub mod Sink

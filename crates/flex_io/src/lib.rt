@@ -2,6 +2,7 @@
 //! run ends.
 #![tactic(auto)]
 
+mod delivery;
 mod gates;
 mod outcome;
 mod safe;
@@ -9,6 +10,7 @@ mod standard;
 mod streams;
 mod transfer;
 
+pub use delivery::deliver;
 pub use gates::{Gate, Idle};
 pub use outcome::{Status, code};
 pub use safe::{SafeSink, SafeSource};

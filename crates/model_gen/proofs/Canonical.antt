@@ -26,7 +26,7 @@ use Rattle.model_gen.specs.declared.rows.Row.TheVariants.{Node, Straight, Anchor
 use Rattle.model_gen.specs.GeneratedModel.{node, straight, anchor, support, generated_model}
 
 -- what is made of each of a list that is made place by place
-map_listed : {X Y : Type 0} (f : X → Y) (g : ℕ → X) (h : ℕ → Y) (n : ℕ) → ((i : ℕ) → i < n → f (g i) ≡ h i) → map f (listed n g) ≡ listed n h
+pub map_listed : {X Y : Type 0} (f : X → Y) (g : ℕ → X) (h : ℕ → Y) (n : ℕ) → ((i : ℕ) → i < n → f (g i) ≡ h i) → map f (listed n g) ≡ listed n h
 map_listed f g h n same =
     let count : length (listed n g) ≡ n = length-map-range_with_len g 0 n in
     fill_by_all h (map f (listed n g)) n (h 0) (length-map (listed n g) f ∙ count)

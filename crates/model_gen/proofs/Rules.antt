@@ -6,7 +6,7 @@ use Rattle.std.proofs.lemmas.List.{get_or-map, length-map, map-append, get_or_ap
 use Rattle.std.proofs.lemmas.List.Elements.{All-append, All-cons, All-nil}
 use Rattle.std.proofs.lemmas.List.Sums.{length-filter, count_by-le-length}
 use Rattle.std.proofs.lemmas.List.FromFn.{length-map-range_with_len, get_or-map-range_with_len}
-use Rattle.std.proofs.lemmas.Option.{slice_get_within, get_or_from_slice_get}
+use Rattle.std.proofs.lemmas.Option.{none-some, slice_get_within, get_or_from_slice_get}
 use Rattle.lists.specs.Listed.{listed}
 use Rattle.model_types.specs.declared.records.Material.{Material}
 use Rattle.model_types.specs.declared.records.Section.{Section}
@@ -15,7 +15,7 @@ use Rattle.model_types.specs.declared.records.Element.{Element}
 use Rattle.model_types.specs.declared.records.Restraint.{Restraint}
 use Rattle.model_types.specs.declared.records.Case.{Case}
 use Rattle.model_types.specs.declared.records.Record.TheVariants as record_of
-use Rattle.model_types.specs.Kinds.{Kind, material_kind, section_kind, node_kind, element_kind, tee_kind, restraint_kind, case_kind, temp_kind, pressure_kind, force_kind, move_kind, Of, list, as_record, count, most, is_keyed, keys, before, is_stop, stop_count}
+use Rattle.model_types.specs.Kinds.{Kind, material_kind, section_kind, node_kind, element_kind, tee_kind, restraint_kind, case_kind, temp_kind, pressure_kind, force_kind, move_kind, check_kind, Of, list, as_record, count, most, is_keyed, keys, before, is_stop, stop_count}
 use Rattle.model_types.specs.Lists.{Lists}
 use Rattle.model_types.specs.declared.ranges.Range.{Range}
 use Rattle.model_types.specs.Ranges.{IsIn}
@@ -212,6 +212,7 @@ module _ (n : ℕ) (few : n ≤ 400) where
   records pressure_kind i x at = all_at (λ y. Keeps (before m pressure_kind i) (record_of.Pressure y)) m.pressures i x (All-nil _) at
   records force_kind i x at = all_at (λ y. Keeps (before m force_kind i) (record_of.Force y)) m.forces i x (All-nil _) at
   records move_kind i x at = all_at (λ y. Keeps (before m move_kind i) (record_of.Move y)) m.moves i x (All-nil _) at
+  records check_kind i x at = all_at (λ y. Keeps (before m check_kind i) (record_of.Check y)) m.checks i x (All-nil _) at
 
   distinct : (k : Kind) → IsTrue (is_keyed k) → AllPairs (λ a b. a ≢ b) (keys m k)
   distinct material_kind keyed = distinct_one (codes "m")
@@ -225,6 +226,7 @@ module _ (n : ℕ) (few : n ≤ 400) where
   distinct pressure_kind keyed = distinct_none
   distinct force_kind keyed = distinct_none
   distinct move_kind keyed = distinct_none
+  distinct check_kind keyed = distinct_none
 
   limits : (k : Kind) → count m k ≤ most k
   limits node_kind = omega (arith, node_count, few)
@@ -238,9 +240,10 @@ module _ (n : ℕ) (few : n ≤ 400) where
   limits pressure_kind = omega arith
   limits force_kind = omega arith
   limits move_kind = omega arith
+  limits check_kind = omega arith
 
   rules_kept : KeepsRules m
-  rules_kept = record { records = records; distinct = distinct; limits = limits; stops = omega (arith, few_stops m.restraints, restraint_count, few); no_check = refl }
+  rules_kept = record { records = records; distinct = distinct; limits = limits; stops = omega (arith, few_stops m.restraints, restraint_count, few) }
 
   pub is_model : IsModel m
   is_model = record {
@@ -259,6 +262,8 @@ module _ (n : ℕ) (few : n ≤ 400) where
       pressures = All-nil _;
       forces = All-nil _;
       moves = All-nil _;
+      checks = All-nil _;
+      in_order = λ i x at. absurd (none-some x at);
     };
     few = record {
       materials = limits material_kind;
@@ -272,5 +277,6 @@ module _ (n : ℕ) (few : n ≤ 400) where
       pressures = limits pressure_kind;
       forces = limits force_kind;
       moves = limits move_kind;
+      checks = limits check_kind;
     };
   }

@@ -1,5 +1,7 @@
 -- The model of n expansion loops, which their text stands for.
 use Rattle.std.specs.Prelude.{◌≡◌, ℕ, ◌+◌, ◌*◌, ◌≤◌, pos, neg_ℤ, false, [], ◌∷◌, ◌++◌, Some, None, Ok, codes}
+use Rattle.accepted_text.specs.Accepted.{IsModelTree}
+use Rattle.elim_tree.specs.Fronts.{Fronts}
 use Rattle.lists.specs.Listed.{listed}
 use Rattle.model_types.specs.declared.records.Material.{Material}
 use Rattle.model_types.specs.declared.records.Section.{Section}
@@ -54,3 +56,7 @@ pub record IsReadAs (n : ℕ) : Type 0 where
 
 abbrev pub GeneratedIsAccepted : Type 0
 GeneratedIsAccepted = (n : ℕ) → 1 ≤ n → n ≤ 400 → IsReadAs n
+
+-- each of these models has an assembly tree
+abbrev pub GeneratedHasTree : Type 0
+GeneratedHasTree = (n : ℕ) → 1 ≤ n → n ≤ 400 → (t : Fronts) × IsModelTree (generated_model n) t

@@ -2,12 +2,14 @@
 #![tactic(auto)]
 
 ghost use Rattle.std.specs.Prelude.{◌≡◌, ◌≤◌, ◌+◌, ◌*◌, IfOk};
-ghost use Rattle.model_gen.specs.GeneratedModel.{GeneratedIsAccepted};
+ghost use Rattle.model_gen.specs.GeneratedModel.{GeneratedHasTree, GeneratedIsAccepted};
 ghost use Rattle.model_gen.specs.Text.{generated};
 
 mod rows;
 
 use crate::rows::{Row, push_rows};
+use elim_order::orders_exist;
+use elim_tree::trees_exist;
 use model_text::canonical_reads_back;
 use model_types::NoMemory;
 use std::alloc::Global;
@@ -47,4 +49,13 @@ pub fn generated_is_accepted()
     ensures { GeneratedIsAccepted }
 {
     canonical_reads_back();
+}
+
+/// The law that each generated model has an assembly tree. As a node of its line is eliminated it has two neighbours left at most,
+/// one to each side, so that no front is broad and the tree is small.
+pub fn generated_has_tree()
+    ensures { GeneratedHasTree }
+{
+    orders_exist();
+    trees_exist();
 }
