@@ -1,5 +1,10 @@
+mod Allowables
+mod CheckAnswers
+mod CheckLines
+mod Checking
 mod Determined
 mod Exist
+mod Judgements
 mod RunLemmas
 mod TableLemmas
 mod Told

@@ -1,20 +1,22 @@
 -- What the lines of a report tell of every equilibrium: pairs of whole numbers between which each displacement and each load
--- of a restraint lies, in the unit of the report, and which contacts are open or closed. It speaks of the text alone, of no
--- bounds that were computed.
-use Rattle.std.specs.Prelude.{◌≡◌, ℕ, ◌+◌, ◌*◌, ◌^◌, ◌<◌, nat_lt, if◌then◌else◌, ⊤, Bool, Option, Some, None, is_some, List, [], ◌∷◌, ◌++◌, length, codes, slice_index_or, ℤ, pos}
+-- of a restraint lies, in the unit of the report, and which contacts are open or closed; and what the lines of its checks tell. It
+-- speaks of the text alone, of no bounds that were computed.
+use Rattle.std.specs.Prelude.{◌≡◌, ℕ, ◌+◌, ◌*◌, ◌^◌, ◌<◌, nat_lt, if◌then◌else◌, ⊤, Bool, Option, Some, None, is_some, List, [], ◌∷◌, ◌++◌, length, codes, slice_get, slice_index_or, ℤ, pos}
 use Rattle.std.specs.List.{flat_map}
 use Rattle.structure.specs.Restraints.{first_of_restraint}
-use Rattle.case_run.specs.Equilibria.{OfEquilibria}
+use Rattle.load_vectors.specs.Equilibria.{OfEquilibria}
 use Rattle.flex_interval.specs.Fraction.{Fraction, Within, scaled}
 use Rattle.int_laws.specs.Matrices.{Vector}
 use Rattle.load_vectors.specs.Cases.{case_at}
 use Rattle.member_set.specs.Realisation.{Realisation, IsInState, force_in, fraction, force_fraction}
+use Rattle.model_types.specs.Fits.{ends_of}
 use Rattle.model_types.specs.Lists.{Lists}
 use Rattle.model_types.specs.declared.answers.Bounds.{Bounds}
 use Rattle.model_types.specs.declared.answers.Cause.{Cause}
+use Rattle.model_types.specs.declared.records.Check.{Check}
 use Rattle.report.specs.Report.{Word, bounds_lines, candidate_lines, end_lines, head_lines, load_count_of, node_key, restraint_key, state_count_of, uncertified_words}
-use Rattle.report.specs.Rounding.{ends_of_pair}
 use Rattle.text_words.specs.Fields.{line}
+use Rattle.pipeflex_top.specs.ToldChecks.{IsCheckText}
 
 -- what a report tells of one kind of record: how many records there are, what stands first in the line of each, how many
 -- pairs follow, the member whose contact state stands before a pair where one does, and the exact number of each pair in the
@@ -64,7 +66,7 @@ IsInStateTold r exact _ _ = ⊤
 abbrev pub ArePaired : Lists → ℕ → Telling → (ℕ → ℕ → Option Bool) → (ℕ → ℕ → Bounds) → Type 0
 ArePaired m case t state pair =
     OfEquilibria m case (λ r exact. (n f : ℕ) → n < t.count → f < t.pairs n →
-    Within (ends_of_pair (pair n f)) (t.number r exact n f) × IsInStateTold r exact (t.contact n f) (state n f))
+    Within (ends_of (pair n f)) (t.number r exact n f) × IsInStateTold r exact (t.contact n f) (state n f))
 
 -- the lines tell all of these, one after another: a line for each record, with pairs that hold its numbers and the states of its
 -- contacts before them
@@ -82,9 +84,18 @@ pub data IsCaseText (m : Lists) (case : ℕ) : List (List Word) → Type 0 where
   uncertified : (cause : Cause) (guess : List ℤ)
       → IsCaseText m case (uncertified_words m (case_at m case) cause ∷ candidate_lines m cause guess)
 
--- the bytes are a report of the model: its head, the lines of each case, and the end
+-- the lines of a case say that it is not certified
+abbrev pub IsUncertifiedText : Lists → ℕ → List (List Word) → Type 0
+IsUncertifiedText m case lines =
+    (cause : Cause) × (guess : List ℤ) × (lines ≡ uncertified_words m (case_at m case) cause ∷ candidate_lines m cause guess)
+
+-- the bytes are a report of the model: its head, the lines of each case, the lines of each check, and the end
 pub record IsReportText (m : Lists) (output : List ℕ) : Type 0 where
   pub cases : List (List (List Word))
   pub one_each : length cases ≡ length m.cases
   pub told : (case : ℕ) → case < length m.cases → IsCaseText m case (slice_index_or cases case [])
-  pub written : output ≡ flat_map line (head_lines m ++ flat_map (λ lines. lines) cases ++ end_lines)
+  pub checks : List (List (List Word))
+  pub one_a_check : length checks ≡ length m.checks
+  pub judged : (n : ℕ) (c : Check) → slice_get m.checks n ≡ Some c →
+      IsCheckText m (λ case. IsUncertifiedText m case (slice_index_or cases case [])) c (slice_index_or checks n [])
+  pub written : output ≡ flat_map line (head_lines m ++ flat_map (λ lines. lines) cases ++ flat_map (λ lines. lines) checks ++ end_lines)

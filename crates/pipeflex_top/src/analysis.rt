@@ -1,60 +1,60 @@
 //! The report of the analysis of a model.
-ghost use Rattle.std.specs.Prelude.{◌≡◌, ◌↔◌, IfOk, IsTrue, All};
-ghost use Rattle.pipeflex_top.specs.Analysis.{MayAnalyse, IsReport, EndsWith, IsCertifiedAnswer};
-ghost use Rattle.pipeflex_top.specs.Told.{IsReportText};
+ghost use Rattle.std.specs.Prelude.{◌≡◌, ℕ, List, IfOk, IfSome, All, length};
+ghost use Rattle.accepted_text.specs.Accepted.{IsAcceptedAs};
+ghost use Rattle.case_run.specs.Runs.{AreForcesOf};
+ghost use Rattle.code_stress.specs.Checks.{checks_of};
+ghost use Rattle.code_stress.specs.Meaning.{ChecksHold};
+ghost use Rattle.model_types.specs.Fits.{AreChecksOf};
+ghost use Rattle.structure.specs.Structure.{IsStructureOf};
+ghost use Rattle.pipeflex_top.specs.Analysis.{Answered, MayAnalyse, built_or_empty};
 
-use crate::written::Written;
-use case_run::answers;
+use crate::answers::Answer;
+use crate::tally::tally_of;
+use case_run::{CaseRuns, runs};
+use code_stress::{checks, no_checks};
 use elim_tree::Tree;
-use flex_io::Status;
-use model_types::{CaseAnswer, Model, NoMemory};
+use model_types::{CheckAnswer, Model, NoMemory};
 use report::bytes;
 use std::alloc::Global;
 
-/// The report of a model, whose nodes are eliminated in the order of its assembly tree, and how the run ends that has written
-/// it.
-pub fn analysis(alloc: Global, model: &Model, tree: &Tree) -> Result<Written, NoMemory>
+/// The report of a model, whose nodes are eliminated in the order of its assembly tree, with its counts.
+pub fn analysis(alloc: Global, model: &Model, tree: &Tree) -> Result<Answer, NoMemory>
     requires { MayAnalyse model.now tree.now }
-    ensures { IfOk result (λ written. IsReport model.now written.bytes.items written.status
-        × IsReportText model.now written.bytes.items) }
+    ensures { (text : List ℕ) → IsAcceptedAs text model.now tree.now → IfOk result (Answered text) }
 {
-    // The laws of what the answers and a printed pair hold.
+    // The laws of what the answers, a printed pair and a verdict hold.
     structure::models_have_their_members();
     structure::states_of_restraints();
     case_run::answers_hold();
+    case_run::forces_hold();
     report::printed_pairs_hold();
+    report::printed_stresses_hold();
+    stress_terms::verdicts_hold();
     // What every model keeps: its rules.
-    let _nodes = model.nodes();
-    let answers = answers(alloc, model, tree.order(), tree.node_parents())?;
-    let status = ending_with(&answers);
-    let bytes = bytes(alloc, model, &answers)?;
-    Ok(Written { bytes, status })
+    let nodes = model.nodes().len() as u32;
+    let runs = runs(alloc, model, tree)?;
+    let checks = checks_by(alloc, model, &runs)?;
+    let tally = tally_of(&runs.answers);
+    let bytes = bytes(alloc, model, &runs.answers, &checks)?;
+    Ok(Answer::Report {
+        bytes,
+        nodes,
+        certified: tally.certified,
+        uncertified: tally.uncertified,
+    })
 }
 
-// How a run ends that has written the report of these answers.
-fn ending_with(answers: &[CaseAnswer]) -> Status
-    ensures { EndsWith answers.now result }
+// The answers of a model's checks, by what its cases have come to.
+fn checks_by(alloc: Global, model: &Model, runs: &CaseRuns) -> Result<Vec<CheckAnswer>, NoMemory>
+    requires structure { IfSome runs.now.structure (IsStructureOf model.now) }
+    requires one_each { length runs.now.forces.items ≡ length model.now.cases }
+    requires one_a_member { All (AreForcesOf runs.now.structure) runs.now.forces.items }
+    ensures value { IfOk result (λ checks. checks.items ≡ checks_of model.now (built_or_empty runs.now.structure) runs.now.forces.items) }
+    ensures fit { IfOk result (λ checks. AreChecksOf model.now checks.items) }
+    ensures hold { IfOk result (λ checks. ChecksHold model.now runs.now.forces.items checks.items) }
 {
-    if all_certified(answers) {
-        Status::Done
-    } else {
-        Status::Uncertified
+    match &runs.structure {
+        Some(structure) => checks(alloc, model, structure, &runs.forces),
+        None => no_checks(alloc, model),
     }
-}
-
-fn all_certified(answers: &[CaseAnswer]) -> bool
-    ensures { IsTrue result ↔ All IsCertifiedAnswer answers.now }
-{
-    for answer in answers {
-        if !is_certified(answer) {
-            return false;
-        }
-    }
-    true
-}
-
-fn is_certified(answer: &CaseAnswer) -> bool
-    ensures { IsTrue result ↔ IsCertifiedAnswer answer.now }
-{
-    matches!(answer, CaseAnswer::Certified { .. })
 }

@@ -1,52 +1,68 @@
-use Rattle.std.proofs.Common.{◌≡◌, ◌∙◌, ℕ, List, Option, length, subst, sym, ap}
+use Rattle.std.proofs.Common.{◌≡◌, ◌∙◌, ℕ, List, Option, All, length, subst, sym, ap, rules}
+use Rattle.std.proofs.lemmas.List.Elements.{All-weaker}
 use Rattle.std.proofs.lemmas.List.FromFn.{length-map-range_with_len}
-use Rattle.elim_tree.specs.Fronts.{parent_in, parents_in}
-use Rattle.elimination.specs.Elimination.{AreParents}
-use Rattle.lists.specs.Order.{IsOrder}
-use Rattle.case_run.specs.Causes.{plan}
-use Rattle.case_run.specs.Answers.{answer_of, answers_of}
-use Rattle.model_types.specs.Fits.{AreAnswersOf}
-use Rattle.pipeflex_top.specs.Analysis.{EndsWith, analysis_of}
-use Rattle.report.specs.Report.{report_of}
-use Rattle.pipeflex_top.proofs.Told.{report_told}
+use Rattle.case_run.specs.Answers.{answer_of}
+use Rattle.case_run.specs.Runs.{forces_of, shared_structure}
+use Rattle.code_stress.specs.Checks.{checks_of}
+use Rattle.code_stress.specs.Meaning.{ChecksHold}
+use Rattle.code_stress.specs.Rules.{NumbersFit}
+use Rattle.code_stress.proofs.RuleLemmas.{check-of}
+use Rattle.model_types.specs.Fits.{AreAnswersOf, AreChecksOf}
+use Rattle.model_types.specs.Rules.{Keeps}
+use Rattle.model_types.specs.declared.records.Check.{Check}
+use Rattle.model_types.specs.declared.records.Record.TheVariants as record_of
+use Rattle.pipeflex_top.specs.Analysis.{analysis_of, built_or_empty, certified_count, checks_in, plan_by, report_by, uncertified_count}
+use Rattle.report.specs.Whole.{report_of}
+use Rattle.pipeflex_top.proofs.Checking.{known, some_found}
+use Rattle.pipeflex_top.proofs.Told.{AreKnown, Laws, report_told}
 use Rattle.pipeflex_top.proofs.analysis.analysis.Goals as goal
 
-pub answers-requires-clause-order : goal.answers-requires-clause-order
-answers-requires-clause-order c = subst IsOrder (sym c.order.ensures) c.requires.permutation
-
-pub answers-requires-clause-nodes : goal.answers-requires-clause-nodes
-answers-requires-clause-nodes c = ap length c.order.ensures ∙ c.requires.nodes
-
-pub answers-requires-clause-parents_count : goal.answers-requires-clause-parents_count
-answers-requires-clause-parents_count c =
-    let tree = c.args.tree.now in
-    ap length c.node_parents.ensures.value ∙ length-map-range_with_len (parent_in tree) 0 (length tree.order) ∙ sym (ap length c.order.ensures)
-
-pub answers-requires-clause-parents_later : goal.answers-requires-clause-parents_later
-answers-requires-clause-parents_later c = subst (λ (o : List ℕ). AreParents c.node_parents.result.now (length o)) (sym c.order.ensures) c.node_parents.ensures.later
-
 pub bytes-requires : goal.bytes-requires
-bytes-requires c =
-    let model = c.args.model.now in
-    let found = c.in_ok-answers in
-    record { answers = subst (AreAnswersOf model) (sym c.deref-2.ensures.value) found.ensures.fit }
+bytes-requires c = record {
+  answers = subst (AreAnswersOf c.args.model.now) (sym c.deref-2.ensures.value) c.in_ok-runs.ensures.fit;
+  checks = subst (AreChecksOf c.args.model.now) (sym c.deref-3.ensures.value) c.in_ok-checks.ensures.fit;
+}
 
 pub returns : goal.returns
-returns c =
+returns c = λ text accepted.
     let model = c.args.model.now in
     let tree = c.args.tree.now in
-    let found = c.in_ok-answers in
-    let given : found.answers.items ≡ analysis_of model tree =
-    found.ensures.given ∙ ap (λ (o : List ℕ). answers_of model (plan o c.node_parents.result.now)) c.order.ensures ∙ ap (λ (ps : List (Option ℕ)). answers_of model (plan tree.order ps)) c.node_parents.ensures.value in
-    let written : c.in_ok-bytes.bytes.items ≡ report_of model found.answers.items = subst (λ answers. c.in_ok-bytes.bytes.items ≡ report_of model answers) c.deref-2.ensures.value c.in_ok-bytes.ensures in
-    let report : c.in_ok-bytes.bytes.items ≡ report_of model (analysis_of model tree) = subst (λ answers. c.in_ok-bytes.bytes.items ≡ report_of model answers) given written in (
-      record {
-        tree = tree;
-        tree_is = c.requires.tree;
-        written = report;
-        ends = subst (λ answers. EndsWith answers c.ending_with-status.result) (c.deref.ensures.value ∙ given) c.ending_with-status.ensures;
-      },
-      report_told c.printed_pairs_hold.ensures c.models_have_their_members.ensures c.states_of_restraints.ensures.counted c.states_of_restraints.ensures.in_order model (analysis_of model tree) c.in_ok-bytes.bytes.items
-          (length-map-range_with_len (answer_of model (plan tree.order (parents_in tree))) 0 (length model.cases))
-          (c.answers_hold.ensures.all model (plan tree.order (parents_in tree)) c.nodes-nodes.ensures.model c.requires.nodes) report,
-    )
+    let plan = plan_by tree in
+    let is_model = c.nodes.ensures.model in
+    let found = c.in_ok-runs in
+    let judged = c.in_ok-checks in
+    let given : found.runs.answers.items ≡ analysis_of model tree = found.ensures.given in
+    let forces : found.runs.forces.items ≡ forces_of model plan = found.ensures.forces in
+    let checks : judged.checks.items ≡ checks_in model tree =
+    judged.ensures.value ∙ ap (λ structure. checks_of model (built_or_empty structure) found.runs.forces.items) found.ensures.shared
+    ∙ ap (λ cases. checks_of model (built_or_empty (shared_structure model plan)) cases) forces in
+    let report : c.in_ok-bytes.bytes.items ≡ report_by model tree =
+    c.in_ok-bytes.ensures ∙ ap (λ answers. report_of model answers c.deref-3.result.now) (c.deref-2.ensures.value ∙ given)
+    ∙ ap (λ answers. report_of model (analysis_of model tree) answers) (c.deref-3.ensures.value ∙ checks) in
+    let hold : ChecksHold model (forces_of model plan) (checks_in model tree) =
+    subst (ChecksHold model (forces_of model plan)) checks (subst (λ cases. ChecksHold model cases judged.checks.items) forces judged.ensures.hold) in
+    let all_known : AreKnown model (analysis_of model tree) (checks_in model tree) =
+    known model plan (built_or_empty (shared_structure model plan))
+    (λ case f is. c.forces_hold.ensures.each model plan is_model c.requires.nodes case f (some_found (forces_of model plan) case f is))
+    (All-weaker (λ x. Keeps model (record_of.Check x)) (λ x. NumbersFit x.kind) (λ x keeps. (check-of model x keeps).form) model.checks is_model.kept.checks)
+    (subst (AreChecksOf model) checks judged.ensures.fit) hold in
+    let laws : Laws = record {
+      printed = c.printed_pairs_hold.ensures;
+      members = c.models_have_their_members.ensures;
+      counted = c.states_of_restraints.ensures.counted;
+      in_order = c.states_of_restraints.ensures.in_order;
+      printed_stresses = c.printed_stresses_hold.ensures;
+      verdicts = c.verdicts_hold.ensures;
+    } in
+    let tallied = c.deref.ensures.value ∙ given in
+    record {
+      model = model;
+      tree = tree;
+      text_is = accepted;
+      written = report;
+      told = report_told laws model (analysis_of model tree) (checks_in model tree) c.in_ok-bytes.bytes.items
+          (length-map-range_with_len (answer_of model plan) 0 (length model.cases)) (c.answers_hold.ensures.all model plan is_model c.requires.nodes) all_known report;
+      nodes_are = search rules;
+      certified_are = c.tally_of-tally.ensures.certified ∙ ap certified_count tallied;
+      uncertified_are = c.tally_of-tally.ensures.uncertified ∙ ap uncertified_count tallied;
+    }

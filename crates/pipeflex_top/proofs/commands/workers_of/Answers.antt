@@ -1,27 +1,12 @@
-use Rattle.std.proofs.Common.{◌≡◌, ◌∙◌, ap, sym, pos, arith, rules, FitsSigned, w64, to_z-of_z}
-use Rattle.std.specs.Fmt.{decimal, signed_decimal}
-use Rattle.text_words.specs.Numbers.{IsNumber}
+use Rattle.std.proofs.Common.{rules, ◌≡◌, codes}
 use Rattle.pipeflex_top.proofs.commands.workers_of.Goals as goal
 
-pub returns-in-Ok : goal.returns-in-Ok
-returns-in-Ok c =
-    let fits : FitsSigned w64 c.in-Ok.workers = search rules in
-    let read = to_z-of_z fits in
-    λ workers. (
+pub returns : goal.returns
+returns c =
+    let option : c.args.option.now ≡ codes "--workers" = search rules in
+    λ n. (
       λ some.
-          let found = (c.within_range.ensures workers).0 some in
-          let form : c.args.word.now ≡ decimal workers = sym c.as_bytes.ensures.value ∙ c.in-Ok.ensures.form.form ∙ ap signed_decimal (sym read ∙ found.0) in
-          (form, found.1, found.2),
-      λ stated.
-          let is : IsNumber c.as_bytes.result.now (pos workers) = record { form = c.as_bytes.ensures.value ∙ stated.0; short = omega (arith, stated.2) } in
-          let same : c.in-Ok.workers ≡ pos workers = cc (c.in-Ok.is, c.number.ensures.only (pos workers) is) in
-          (c.within_range.ensures workers).1 (read ∙ same, stated.1, stated.2),
+          let found = (c.number_to.ensures n).0 some in
+          (option, found.0, found.1, found.2),
+      λ stated. (c.number_to.ensures n).1 (stated.1, stated.2, stated.3),
     )
-
-pub returns-in-Err : goal.returns-in-Err
-returns-in-Err c = λ workers. (
-  λ some. absurd (cc some),
-  λ stated.
-      let is : IsNumber c.as_bytes.result.now (pos workers) = record { form = c.as_bytes.ensures.value ∙ stated.0; short = omega (arith, stated.2) } in
-      absurd (cc (c.in-Err.is, c.number.ensures.only (pos workers) is)),
-)
