@@ -1,29 +1,11 @@
 //! A cantilever of 1 m: at rest, with a load at its tip, with a load that is too large, on an anchor that is too stiff, and with
 //! its tip on a support that holds one way.
-ghost use Rattle.std.specs.Prelude.{◌≡◌, ◌<◌, length};
-ghost use Rattle.elimination.specs.Elimination.{AreParents};
-ghost use Rattle.lists.specs.Order.{IsOrder};
+ghost use Rattle.std.specs.Prelude.{◌<◌};
 
-use crate::makers::model;
-use case_run::answers;
-use model_types::{Bounds, CaseAnswer, Cause, Model, NodeId, RestraintId};
+use crate::makers::answers_of;
+use model_types::{Bounds, CaseAnswer, Cause, NodeId, RestraintId};
 use std::alloc::Global;
 use std::process::Abort;
-
-// The nodes in their order, and the parent of each place.
-fn order() -> [u32; 2]
-    ensures count { length result ≡ 2 }
-    ensures order { IsOrder result }
-{
-    [0, 1]
-}
-
-fn parents() -> [Option<u32>; 2]
-    ensures count { length result ≡ 2 }
-    ensures later { AreParents result 2 }
-{
-    [Some(1), None]
-}
 
 // A straight along the x axis from its anchor, at rest, with 1000 N down at its tip, and with 10^9 N up there.
 const CANTILEVER: &str = "node a 0 0 0
@@ -36,16 +18,9 @@ force tip b 0 0 -1000000 0 0 0
 force great b 0 0 1000000000000 0 0 0
 ";
 
-// The answers of a model of two nodes.
-fn answers_of(rt: &impl Abort, alloc: Global, m: &Model) -> Vec<CaseAnswer> {
-    assert!(rt; m.nodes().len() == 2);
-    answers(alloc, m, &order(), &parents()).expect(rt, "memory")
-}
-
 // The answers of the cantilever on an anchor.
 fn found(rt: &impl Abort, alloc: Global, anchor: &str) -> Vec<CaseAnswer> {
-    let m = model(rt, alloc, &[CANTILEVER, anchor]);
-    answers_of(rt, alloc, &m)
+    answers_of(rt, alloc, &[CANTILEVER, anchor])
 }
 
 // 10^9 nm are a m, and 10^3 mN are a N.
@@ -211,8 +186,7 @@ force up b 0 0 1000000 0 0 0
 
 // The answers of the cantilever with a support at its tip.
 fn supported(rt: &impl Abort, alloc: Global, support: &str) -> Vec<CaseAnswer> {
-    let m = model(rt, alloc, &[SUPPORTED, support]);
-    answers_of(rt, alloc, &m)
+    answers_of(rt, alloc, &[SUPPORTED, support])
 }
 
 // A support under the tip touches at rest without force, which counts as open; it takes all but some 2 N of what pushes it

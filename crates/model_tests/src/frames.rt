@@ -1,9 +1,7 @@
 //! Frames whose displacements and loads are known in closed form. The values were worked out outside the program, to 60 digits, by
 //! the formulas that stand beside each frame: E = 200,000 MPa, the tube of 100 mm by 10 mm has I = pi (0.1^4 - 0.08^4) / 64 m^4
 //! and A = pi (0.1^2 - 0.08^2) / 4 m^2, G J = E I / 1.3, and each anchor of 10^10 N/m and N m/rad gives way too.
-use crate::makers::TUBE;
-use accepted_text::accept;
-use case_run::answers;
+use crate::makers::answers_of;
 use model_types::{Bounds, CaseAnswer};
 use std::alloc::Global;
 use std::process::Abort;
@@ -14,17 +12,6 @@ pub(crate) type Known = (usize, i128);
 
 // No pair is wider: 60 nm and nrad, or 4 mN and mN m.
 const WIDEST: i128 = 1 << 32;
-
-// The answers of the cases of a frame of tubes.
-fn answers_of(rt: &impl Abort, alloc: Global, frame: &str) -> Vec<CaseAnswer> {
-    let mut text = TUBE.to_string(alloc).expect(rt, "memory");
-    text.push_str(frame).expect(rt, "memory");
-    let accepted = accept(alloc, text.as_bytes()).expect(rt, "a model and its tree");
-    let order = accepted.tree.order();
-    let parents = accepted.tree.node_parents();
-    assert!(rt; parents.len() == order.len(), "a parent each");
-    answers(alloc, &accepted.model, order, parents).expect(rt, "memory")
-}
 
 // The first case of a frame without contacts is certified, and its bounds enclose these numbers closely.
 pub(crate) fn check(
@@ -46,7 +33,7 @@ pub(crate) fn check_contacts(
     loads: &[Known],
     closed: &[bool],
 ) {
-    match answers_of(rt, alloc, frame).first() {
+    match answers_of(rt, alloc, &[frame]).first() {
         Some(
             CaseAnswer::Certified {
                 u,

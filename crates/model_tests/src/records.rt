@@ -157,7 +157,8 @@ fn needs_no_sine(candidate: &Record) -> bool
         | Record::Temp(_)
         | Record::Pressure(_)
         | Record::Force(_)
-        | Record::Move(_) => true,
+        | Record::Move(_)
+        | Record::Check(_) => true,
         Record::Element(element) => is_straight(element.shape),
     }
 }

@@ -135,8 +135,8 @@ fn uncertified(
 fn expect_report(rt: &impl Abort, alloc: Global, m: &Model, answer: CaseAnswer, report: &str)
     requires { FitsModel m.now answer }
 {
-    assert!(rt; m.cases().len() == 1);
-    let written = bytes(alloc, m, slice::from_ref(&answer)).expect(rt, "memory");
+    assert!(rt; m.cases().len() == 1 && m.checks().is_empty());
+    let written = bytes(alloc, m, slice::from_ref(&answer), &[]).expect(rt, "memory");
     assert!(rt; written.as_slice() == report.as_bytes());
 }
 

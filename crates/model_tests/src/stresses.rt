@@ -5,13 +5,13 @@ ghost use Rattle.code_stress.specs.Direct.{HasInside, IsPressure};
 ghost use Rattle.code_stress.specs.Station.{StationInForm};
 
 use code_stress::{
-    StationData, Verdict, expansion_allowable, occasional_allowable, station_stress,
-    sustained_allowable, verdict_on,
+    StationData, expansion_allowable, occasional_allowable, station_stress, sustained_allowable,
 };
 use flex_interval::{Iv, IvFault, point};
 use section_data::SectionIv;
 use sif_factors::cycle_factor;
 use std::process::Abort;
+use stress_terms::{Verdict, verdict_on};
 
 // The units of forces and moments, of an index in quarters, and of a stress in MPa and in tenths of a kPa.
 const UNIT: i128 = 1 << 40;

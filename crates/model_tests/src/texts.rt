@@ -1,6 +1,6 @@
 //! The base text, its canonical form, and each refusal.
 use model_text::{TextFault, echo, node_line, read};
-use model_types::NodeId;
+use model_types::{CheckId, NodeId};
 use std::alloc::Global;
 use std::process::Abort;
 
@@ -61,7 +61,9 @@ fn refuses_one_more_line(rt: HostRuntime) {
         ("node - 0 0 0", 7),
         ("nodes c 0 0 0", 4),
         ("bend c", 5),
-        ("check c", 17),
+        ("check", 5),
+        ("check c", 5),
+        ("check c bent", 9),
         ("temp c", 5),
         ("section w st 100000 50000 0 0", 13),
         ("section w sx 100000 50000 0 0", 9),
@@ -171,6 +173,116 @@ hanger H b 1 0
 anchor B b - -
 case c 0 0 0 0 0 0
 ";
+
+// The cases of a model with a sustained check.
+const CHECKED: &str = "\
+case w 0 0 -1000 0 0 0
+case h 0 0 -1000 0 100000 1000000
+check sus sustained w 137900
+";
+
+// The base text with cases, a sustained check and further lines is refused by this number at this line, or read.
+fn judge_checks(rt: &impl Abort, alloc: Global, lines: &str, expected: Option<(u8, u32)>) {
+    let text = format!(in alloc; "{BASE}{CHECKED}{lines}").expect(rt, "memory");
+    judge(rt, alloc, text.as_str(), expected);
+}
+
+#[test]
+fn judges_checks_of_one_case(rt: HostRuntime) {
+    for (line, expected) in [
+        ("check a sustained w 1", None),
+        ("check w sustained h 2000000", None),
+        ("check a sustained w 0", Some((7, 11))),
+        ("check a sustained w 2000001", Some((7, 11))),
+        ("check a sustained w -", Some((6, 11))),
+        ("check a sustained w", Some((5, 11))),
+        ("check a sustained w 1 1", Some((5, 11))),
+        ("check a sustained + x", Some((7, 11))),
+        ("check + sustained w x", Some((7, 11))),
+        ("check sus sustained v 0", Some((7, 11))),
+        ("check sus sustained v 1", Some((8, 11))),
+        ("check a sustained v 1", Some((9, 11))),
+        ("check a sustained v 1\ncase v 0 0 0 0 0 0", Some((9, 11))),
+        // The kind comes before the count of words, and before the form of the name.
+        ("check + bent", Some((9, 11))),
+        ("check + Sustained w 1 1", Some((9, 11))),
+        ("check + #", Some((5, 11))),
+        ("check a occasional w 1 -", None),
+        ("check a occasional w 2000000 100", None),
+        ("check a occasional w 1 200", None),
+        ("check a occasional w 1 99", Some((7, 11))),
+        ("check a occasional w 1 201", Some((7, 11))),
+        ("check a occasional w 1 x", Some((6, 11))),
+        ("check a occasional w 1", Some((5, 11))),
+        ("check a occasional w 0 x", Some((7, 11))),
+        ("check a occasional v 1 -", Some((9, 11))),
+    ] {
+        judge_checks(&rt, rt.alloc(), line, expected);
+    }
+}
+
+#[test]
+fn judges_expansion_checks(rt: HostRuntime) {
+    for (lines, expected) in [
+        ("check a expansion w h 1 2000000 1 100 -", None),
+        ("check a expansion h h 2000000 1 1000000000 1200 sus", None),
+        ("check a expansion w h 1 1 1 100", Some((5, 11))),
+        ("check a expansion w h 1 1 1 100 - -", Some((5, 11))),
+        ("check a expansion + h 0 1 1 100 -", Some((7, 11))),
+        ("check a expansion w + x 1 1 100 -", Some((7, 11))),
+        ("check a expansion w h x 0 1 100 -", Some((6, 11))),
+        ("check a expansion w h 0 x 1 100 -", Some((7, 11))),
+        ("check a expansion w h 1 2000001 x 100 -", Some((7, 11))),
+        ("check a expansion w h 1 - 0 100 -", Some((6, 11))),
+        ("check a expansion w h 1 1 0 x -", Some((7, 11))),
+        ("check a expansion w h 1 1 1000000001 100 -", Some((7, 11))),
+        ("check a expansion w h 1 1 - 100 -", Some((6, 11))),
+        ("check a expansion w h 1 1 1 99 +", Some((7, 11))),
+        ("check a expansion w h 1 1 1 1201 -", Some((7, 11))),
+        ("check a expansion w h 1 1 1 - +", Some((6, 11))),
+        ("check a expansion w h 1 1 1 100 +", Some((7, 11))),
+        ("check sus expansion v h 1 1 1 100 -", Some((8, 11))),
+        ("check a expansion v h 1 1 1 100 -", Some((9, 11))),
+        ("check a expansion w v 1 1 1 100 -", Some((9, 11))),
+        ("check a expansion w h 1 1 1 100 b", Some((9, 11))),
+        // A later check, and the check itself.
+        (
+            "check a expansion w h 1 1 1 100 b\ncheck b sustained w 1",
+            Some((9, 11)),
+        ),
+        ("check a expansion w h 1 1 1 100 a", Some((9, 11))),
+        // The check is there, and is no sustained one.
+        (
+            "check b occasional w 1 -\ncheck a expansion w h 1 1 1 100 b",
+            Some((9, 12)),
+        ),
+        (
+            "check b expansion w h 1 1 1 100 sus\ncheck a expansion w h 1 1 1 100 b",
+            Some((9, 12)),
+        ),
+    ] {
+        judge_checks(&rt, rt.alloc(), lines, expected);
+    }
+}
+
+// The base text with a case, and so many checks from line 9 on.
+fn with_checks(rt: &impl Abort, alloc: Global, count: u32) -> String {
+    let mut text = format!(in alloc; "{BASE}case w 0 0 -1000 0 0 0\n").expect(rt, "memory");
+    for i in 0..count {
+        text = format!(in alloc; "{text}check c{i} sustained w 1\n").expect(rt, "memory");
+    }
+    text
+}
+
+#[test]
+fn counts_checks(rt: HostRuntime) {
+    let full = with_checks(&rt, rt.alloc(), 32);
+    judge(&rt, rt.alloc(), full.as_str(), None);
+    let over = with_checks(&rt, rt.alloc(), 33);
+    judge(&rt, rt.alloc(), over.as_str(), Some((14, 41)));
+    let doubled = format!(in rt.alloc(); "{full}check c7 sustained w 1").expect(&rt, "memory");
+    judge(&rt, rt.alloc(), doubled.as_str(), Some((8, 41)));
+}
 
 // A header with a branch at b, and a pipe that runs on from c.
 const BRANCHED: &str = "pipeflex 1
@@ -370,4 +482,40 @@ tee b r s coefficient 4400
 anchor A a - -
 ";
     expect_echo(&rt, rt.alloc(), mixed, sorted);
+}
+
+#[test]
+fn echoes_checks(rt: HostRuntime) {
+    let mixed = "pipeflex 1
+case w 0 0 -1000 0 0 0
+check\tsus  sustained w 137900 # weight
+check wind occasional w 137900 -
+node a 0 0 0
+case h 0 0 -1000 0 100000 0
+check gust occasional w 1 150
+check range expansion w h 137900 130000 7000 1200 sus
+check free expansion h w 1 2000000 1000000000 100 -
+";
+    let sorted = "pipeflex 1
+node a 0 0 0
+case w 0 0 -1000 0 0 0
+case h 0 0 -1000 0 100000 0
+check sus sustained w 137900
+check wind occasional w 137900 -
+check gust occasional w 1 150
+check range expansion w h 137900 130000 7000 1200 sus
+check free expansion h w 1 2000000 1000000000 100 -
+";
+    expect_echo(&rt, rt.alloc(), mixed, sorted);
+    expect_echo(&rt, rt.alloc(), sorted, sorted);
+}
+
+#[test]
+fn reads_a_check(rt: HostRuntime) {
+    let text = format!(in rt.alloc(); "{BASE}{CHECKED}").expect(&rt, "memory");
+    let model = read(rt.alloc(), text.as_bytes()).expect(&rt, "a model");
+    assert!(rt; model.checks().len() == 1);
+    let check = model.check(CheckId(0));
+    assert!(rt; check.kind.is_sustained());
+    assert!(rt; check.name.bytes() == b"sus".as_slice());
 }

@@ -655,7 +655,7 @@ fn ends<R: Threads + Sync + Abort, S: Source>(
 }
 
 // The words and a text of a head and a rest are answered so.
-fn answers<R: Threads + Sync + Abort>(
+pub(crate) fn answers<R: Threads + Sync + Abort>(
     rt: &R,
     alloc: Global,
     words: &[&str],
@@ -669,6 +669,21 @@ fn answers<R: Threads + Sync + Abort>(
     ends(rt, alloc, &line, &mut SafeSource::new(bytes), want)
 }
 
+/// The report of a model whose cases are all certified.
+pub(crate) fn report_of<R: Threads + Sync + Abort>(
+    rt: &R,
+    alloc: Global,
+    text: &str,
+) -> Result<Vec<u8>, Fail> {
+    let line = line_of(alloc, &["analyse"])?;
+    let mut source = SafeSource::new(text.as_bytes().to_vec(alloc)?);
+    let mut out = SafeSink::new(alloc, 1 << 16)?;
+    let mut err = SafeSink::new(alloc, 0)?;
+    let status = run(rt, alloc, &line, &mut source, &mut out, &mut err, &Idle);
+    assert!(rt; code(status) == code(Status::Done));
+    Ok(out.bytes().to_vec(alloc)?)
+}
+
 type Row = (
     &'static [&'static str],
     (&'static str, &'static str),
@@ -677,7 +692,7 @@ type Row = (
 
 #[test]
 fn answers_words(rt: HostRuntime) -> Result<(), Fail> {
-    let rows: [Row; 17] = [
+    let rows: [Row; 15] = [
         // The words.
         (&["members"], (STRAIGHT, ""), (Status::Done, TABLE, "")),
         (&["echo"], (STRAIGHT, ""), (Status::Done, STRAIGHT, "")),
@@ -728,22 +743,98 @@ fn answers_words(rt: HostRuntime) -> Result<(), Fail> {
             (STRAIGHT, ""),
             (Status::Usage, "", USAGE),
         ),
-        (
-            &["generate", "1"],
-            (STRAIGHT, ""),
-            (Status::Usage, "", USAGE),
-        ),
-        (
-            &["summary", "1"],
-            (STRAIGHT, ""),
-            (Status::Usage, "", USAGE),
-        ),
         // A sink without room.
         (&["members"], (STRAIGHT, ""), (Status::WriteFault, "", "")),
         (&["members"], ("", ""), (Status::WriteFault, "", "")),
     ];
     for (words, text, want) in rows {
         answers(&rt, rt.alloc(), words, text, want)?;
+    }
+    Ok(())
+}
+
+// Of a generated model: the text, of one loop.
+const GENERATED: &str = "\
+pipeflex 1
+material m 200000 300 12000 7850
+section s m 168300 7110 0 0
+node p0 0 0 0
+node p1 3000000 0 0
+node p2 3000000 3000000 0
+node p3 6000000 3000000 0
+node p4 6000000 0 0
+straight e0 p0 p1 s
+straight e1 p1 p2 s
+straight e2 p2 p3 s
+straight e3 p3 p4 s
+anchor a0 p0 - -
+anchor a1 p4 - -
+oneway r0 p2 0 0 -1 0 100000000
+case w 0 0 -1000 0 0 0
+";
+
+// The words ask for a generated model, or have no form; the source keeps what it has.
+fn answers_unread<R: Threads + Sync + Abort>(
+    rt: &R,
+    alloc: Global,
+    words: &[&str],
+    want: (Status, &str, &str),
+) -> Result<(), Fail> {
+    let line = line_of(alloc, words)?;
+    let mut source = SafeSource::new(STRAIGHT.as_bytes().to_vec(alloc)?);
+    ends(rt, alloc, &line, &mut source, want)?;
+    let rest = take_all(alloc, &mut source, 4096)?;
+    assert!(rt; rest.len() == STRAIGHT.len());
+    Ok(())
+}
+
+#[test]
+fn makes_models(rt: HostRuntime) -> Result<(), Fail> {
+    let rows: [(&[&str], (Status, &str, &str)); 13] = [
+        (&["generate", "1"], (Status::Done, GENERATED, "")),
+        (
+            &["summary", "1"],
+            (
+                Status::Done,
+                "summary 1 nodes 5 certified 1 uncertified 0\n",
+                "",
+            ),
+        ),
+        (
+            &["summary", "20"],
+            (
+                Status::Done,
+                "summary 20 nodes 81 certified 1 uncertified 0\n",
+                "",
+            ),
+        ),
+        (
+            &["summary", "1", "--workers", "64"],
+            (
+                Status::Done,
+                "summary 1 nodes 5 certified 1 uncertified 0\n",
+                "",
+            ),
+        ),
+        (&["generate", "0"], (Status::Usage, "", USAGE)),
+        (&["generate", "401"], (Status::Usage, "", USAGE)),
+        (&["generate"], (Status::Usage, "", USAGE)),
+        (
+            &["generate", "5", "--workers", "4"],
+            (Status::Usage, "", USAGE),
+        ),
+        (&["summary", "01"], (Status::Usage, "", USAGE)),
+        (&["summary"], (Status::Usage, "", USAGE)),
+        (
+            &["summary", "5", "--workers", "65"],
+            (Status::Usage, "", USAGE),
+        ),
+        (&["summary", "--workers", "4"], (Status::Usage, "", USAGE)),
+        // A sink without room.
+        (&["generate", "1"], (Status::WriteFault, "", "")),
+    ];
+    for (words, want) in rows {
+        answers_unread(&rt, rt.alloc(), words, want)?;
     }
     Ok(())
 }
@@ -1348,7 +1439,10 @@ fn refuses_texts(rt: HostRuntime) -> Result<(), Fail> {
             "pipeflex 1\nmaterial st 200000 300 12000 7850\nsection s st 100000 50000 0 0\n",
             "refused 13 line 3 walltoothick\n",
         ),
-        ("pipeflex 1\ncheck c\n", "refused 17 line 2 unbuilt\n"),
+        (
+            "pipeflex 1\ncheck c bent\n",
+            "refused 9 line 2 unknownname\n",
+        ),
     ] {
         let want = (Status::Refused, "", line);
         answers(&rt, rt.alloc(), &["members"], (text, ""), want)?;
