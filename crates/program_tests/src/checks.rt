@@ -76,14 +76,14 @@ end
 const ELBOW: &str = "\
 pipeflex 1
 material A106B 203400 300 11500 7850
-section R6 A106B 168300 7110 0 0
+section pipe6 A106B 168300 7110 0 0
 node a 0 0 0
 node b 2000000 0 0
 node c 2229000 229000 0
 node d 2229000 1229000 0
-straight p a b R6
-bend e b c R6 229000 90000 2229000 0 0
-straight q c d R6
+straight p a b pipe6
+bend e b c pipe6 229000 90000 2229000 0 0
+straight q c d pipe6
 anchor A a - -
 case push 0 0 0 0 0 0
 force push d 3000000 0 -2000000 0 0 0
@@ -131,16 +131,16 @@ end
 const TEE: &str = "\
 pipeflex 1
 material A106B 203400 300 11500 7850
-section R6 A106B 168300 7110 1500 0
-section R3 A106B 88900 5490 1500 0
+section pipe6 A106B 168300 7110 1500 0
+section pipe3 A106B 88900 5490 1500 0
 node a 0 0 0
 node t 2000000 0 0
 node b 4000000 0 0
 node d 2000000 0 1500000
-straight west a t R6
-straight east t b R6
-straight branch t d R3
-tee t branch R6 pad 7110
+straight west a t pipe6
+straight east t b pipe6
+straight branch t d pipe3
+tee t branch pipe6 pad 7110
 anchor A a - -
 case push 0 0 0 0 0 2000000
 force push d 1000000 500000 0 0 0 0
@@ -197,12 +197,12 @@ end
 const TORSION: &str = "\
 pipeflex 1
 material A106B 203400 300 11500 7850
-section R6 A106B 168300 7110 0 0
+section pipe6 A106B 168300 7110 0 0
 node a 0 0 0
 node b 2000000 0 0
 node c 2000000 1000000 0
-straight p a b R6
-straight q b c R6
+straight p a b pipe6
+straight q b c pipe6
 anchor A a - -
 case load 0 0 0 0 0 0
 force load c 0 0 -10000000 0 0 0
